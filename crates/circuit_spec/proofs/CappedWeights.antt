@@ -1,11 +1,10 @@
 -- The outcome by capped weights is the outcome, over all walks and over those of kept labels.
-use Rattle.std.proofs.Common.{◌≡◌, ◌⊎◌, ◌<◌, ◌≤◌, ◌^◌, ℕ, inl, inr, List, refl, sym, ◌∙◌, ap, subst, min, arith}
+use Rattle.std.proofs.Common.{◌≡◌, ◌⊎◌, ◌<◌, ◌≤◌, ◌^◌, ℕ, inl, inr, refl, sym, ◌∙◌, ap, subst, min, arith}
 use Rattle.std.proofs.Math.Nat.{min-le_left}
 use Rattle.std.proofs.lemmas.Grind.{common_steps}
 use Rattle.ml_base.specs.Weight.{FullWeight, IsAtMost, IsCappedAtMost, cap}
 use Rattle.ml_base.specs.declared.weight.Weight.{Weight}
 use Rattle.ml_base.specs.declared.weight.Weight.TheVariants.{Known, Past}
-use Rattle.circuit_spec.specs.declared.hops.Hop.{Hop}
 use Rattle.circuit_spec.specs.declared.hops.Request.{Request}
 use Rattle.circuit_spec.specs.declared.hops.TheConstants.{HOP_LIMIT}
 use Rattle.circuit_spec.specs.declared.hops.Outcome.{Outcome}
@@ -68,13 +67,15 @@ both w c h costs hops = ap (λ x. full x w.hops) costs ∙ ap (λ n. full c n) h
 exact_least : (T : Topology) (r : Request) (c h : ℕ) → IsLeastCapped T (Walk T r) (Known c h) → h < 2 ^ 40 → IsLeastWeight T r (full c h) × (c < 2 ^ 64)
 exact_least T r c h least below =
     let at = cap_known (weight_of T least.hops) c h least.weight in
-    let small : c < 2 ^ 64 = omega (arith, at.0, at.1) in
-    (record {
-      hops = least.hops;
-      walk = least.holds;
-      weight = both (weight_of T least.hops) c h at.1 (exact_hops (weight_of T least.hops).hops h at.2 below);
-      least = λ others walk. uncapped (weight_of T others) c h small (least.least others walk);
-    }, small)
+    let small : c < 2 ^ 64 = omega (arith, at.0, at.1) in (
+      record {
+        hops = least.hops;
+        walk = least.holds;
+        weight = both (weight_of T least.hops) c h at.1 (exact_hops (weight_of T least.hops).hops h at.2 below);
+        least = λ others walk. uncapped (weight_of T others) c h small (least.least others walk);
+      },
+      small,
+    )
 
 pub exact_outcome : (T : Topology) (r : Request) (o : Outcome) → IsExact o → IsCappedOutcome T (Walk T r) o → IsOutcome T r o
 exact_outcome T r outcome.NoWalk exact is = is

@@ -1,5 +1,5 @@
 -- Segments and entered places are those of the system of the hops over kept labels.
-use Rattle.std.proofs.Common.{◌≡◌, ℕ, ◌+◌, inl, inr, List, [], ◌∷◌, ◌++◌, length, refl, sym, ◌∙◌, ap, subst, reverse}
+use Rattle.std.proofs.Common.{◌≡◌, ◌+◌, inl, inr, List, [], ◌∷◌, ◌++◌, refl, sym, ◌∙◌, ap, subst, reverse}
 use Rattle.std.specs.List.{sum_by}
 use Rattle.std.proofs.lemmas.List.Sums.{sum_by-cons}
 use Rattle.walk_grammar.specs.System.{System, Origin, Request as Requested, Entry, IsEntered as IsSystemEntered, IsSegmentUnder, cost_of as system_cost}
@@ -11,7 +11,7 @@ use Rattle.circuit_spec.specs.declared.hops.PlaceName.{PlaceName}
 use Rattle.circuit_spec.specs.declared.hops.Request.{Request}
 use Rattle.circuit_spec.specs.declared.hops.Unit.{Unit as DataUnit}
 use Rattle.circuit_spec.specs.Network.{Topology}
-use Rattle.circuit_spec.specs.Steps.{Step, Run, cost_of}
+use Rattle.circuit_spec.specs.Steps.{Run, cost_of}
 use Rattle.circuit_spec.specs.Kept.{IsOverKept, AreOverKept}
 use Rattle.circuit_spec.specs.Segments.{RootPlace, request, entry, unit_in, IsSegment, IsStart, IsEntered, IsSegmentOf}
 use Rattle.circuit_spec.specs.HopRules.{hop_system}
@@ -54,15 +54,23 @@ entered_in T r x e =
     let parts = halves T (unit_in e.start []) e.hops (e.last ∷ []) (unit_in x e.stack) e.run in
     let kept = kept_parts T r e.hops (e.last ∷ []) e.kept in
     let push = pushed T r parts.mid e.last parts.second.0 kept.1.0 e.adapts (effect T parts.mid e.last parts.second.0 parts.second.1) in
-    let P : DataUnit → Type 0 = λ v. (k : Hop) × (f : Frame) × (kept_system T r).Pushes (place_of parts.mid) k f (place_of v) in
-    (e.start, e.is_start, (e.hops, place_of parts.mid, reverse parts.mid.stack,
-      system_run T (IsOverKept T r) (unit_in e.start []) e.hops parts.mid kept.0 parts.first, subst P (sym parts.second.2) push))
+    let P : DataUnit → Type 0 = λ v. (k : Hop) × (f : Frame) × (kept_system T r).Pushes (place_of parts.mid) k f (place_of v) in (
+      e.start,
+      e.is_start,
+      (
+        e.hops,
+        place_of parts.mid,
+        reverse parts.mid.stack,
+        system_run T (IsOverKept T r) (unit_in e.start []) e.hops parts.mid kept.0 parts.first,
+        subst P (sym parts.second.2) push,
+      ),
+    )
 
 entered_out : (T : Topology) (r : Request) (x : PlaceName) → IsSystemEntered (kept_system T r) (IsStart T r) x → IsEntered T r x
 entered_out T r x (a, is_start, (hops, v, s, run, (k, f, push))) =
     let S = kept_system T r in
     let whole = hop_run T (IsOverKept T r) a [] (hops ++ k ∷ []) x (f ∷ s)
-      (run_append S hops (k ∷ []) a [] v s x (f ∷ s) run (x, f ∷ s, inr (inl (f, push, refl)), (refl, refl))) in
+    (run_append S hops (k ∷ []) a [] v s x (f ∷ s) run (x, f ∷ s, inr (inl (f, push, refl)), (refl, refl))) in
     record {
       start = a;
       hops = hops;

@@ -10,7 +10,7 @@ use Rattle.circuit_spec.specs.declared.hops.Outcome.{Outcome}
 use Rattle.circuit_spec.specs.declared.hops.Outcome.TheVariants as outcome
 use Rattle.circuit_spec.specs.Network.{Name, Topology}
 use Rattle.circuit_spec.specs.Steps.{Run, Walk, weight_of}
-use Rattle.circuit_spec.specs.Segments.{request, unit_in, IsWalkOverKept, IsStart, IsTarget, IsSegmentOf}
+use Rattle.circuit_spec.specs.Segments.{request, unit_in, IsWalkOverKept, IsTarget, IsSegmentOf}
 use Rattle.circuit_spec.specs.Keeping.{GivesKeepers, Keeping, kept_hops}
 use Rattle.circuit_spec.specs.Faults.{IsSound}
 use Rattle.circuit_spec.specs.CappedOutcome.{IsLeastCapped, IsCappedOutcome}

@@ -1,5 +1,5 @@
 -- The outcome told by capped weights, over any lists of hops that stand for the walks.
-use Rattle.std.specs.Prelude.{◌≡◌, ◌^◌, ◌<◌, ◌≤◌, ℕ, List}
+use Rattle.std.specs.Prelude.{◌≡◌, ◌^◌, ◌<◌, ◌≤◌, List}
 use Rattle.ml_base.specs.Weight.{IsCappedAtMost, cap}
 use Rattle.ml_base.specs.declared.weight.Weight.{Weight}
 use Rattle.ml_base.specs.declared.weight.Weight.TheVariants as weight

@@ -25,4 +25,4 @@ IsRequestFault T r (UnknownPort id) =
 IsRequestFault T r (LabelNotHere id label) =
     IsPort T r.from × IsPort T r.to
     × ((IsMissedAt T r.from r.from_wish label × (id ≡ r.from))
-      ⊎ (IsKnownEnd T r.from r.from_wish × IsMissedAt T r.to r.to_wish label × (id ≡ r.to)))
+    ⊎ (IsKnownEnd T r.from r.from_wish × IsMissedAt T r.to r.to_wish label × (id ≡ r.to)))

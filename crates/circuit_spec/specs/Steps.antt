@@ -32,8 +32,7 @@ frame_of function class label = record {
   label = label;
 }
 
--- The ports of a SwitchingService: those that it lists. One that lists none, in neither direction, has the ports of the Nodes
--- that name it, and where it states an encoding only those of that encoding.
+-- the Node that the element is, if it is one
 abbrev pub node_at : Element → Option NodeE
 node_at (element.Node n) = Some n
 node_at (element.Port p) = None
@@ -43,22 +42,28 @@ node_at (element.Adaptation a) = None
 node_at (element.Deadaptation a) = None
 node_at (element.Conversion c) = None
 
+-- the Nodes that name the service
 abbrev pub nodes_of : Topology → Name → List NodeE
 nodes_of T service = filter (λ (n : NodeE). names n.services service) (filter_map (λ (p : Placed). node_at p.element) (elements_of T))
 
+-- the port has the encoding, where one is stated
 abbrev pub has_encoding : Topology → Option Name → Name → Bool
 has_encoding T None port = true
 has_encoding T (Some encoding) port = port_has T port (λ p. bytes_eq p.encoding encoding)
 
+-- The ports of a SwitchingService in one direction: those that it lists. One that lists none, in neither direction, has the ports of
+-- the Nodes that name it, and where it states an encoding only those of that encoding.
 abbrev pub ports_of_service : Topology → (NodeE → List Name) → Option (List Name) → SwitchE → List Name
 ports_of_service T of_node listed s =
     cond (is_none s.inbound && is_none s.outbound)
     (filter (has_encoding T s.encoding) (flat_map of_node (nodes_of T s.id)))
     (unwrap_or listed [])
 
+-- its inbound ports
 abbrev pub inbound_of : Topology → SwitchE → List Name
 inbound_of T s = ports_of_service T (λ (n : NodeE). n.inbound) s.inbound s
 
+-- its outbound ports
 abbrev pub outbound_of : Topology → SwitchE → List Name
 outbound_of T s = ports_of_service T (λ (n : NodeE). n.outbound) s.outbound s
 
@@ -120,6 +125,7 @@ Run T u (h ∷ hops) v = (mid : DataUnit) × Step T u h mid × Run T mid hops v
 
 -- Requests
 
+-- the label, or none, is as the wish says
 abbrev pub IsWished : Wish → Tag → Type 0
 IsWished Any label = Unit {0}
 IsWished (Value wished) label = label ≡ Some wished
@@ -129,6 +135,7 @@ pub record IsAllowed (T : Topology) (port : Name) (wish : Wish) (class : Port) (
   pub place : IsPlace T port label class
   pub wished : IsWished wish label
 
+-- the unit at the class and the label, or none, with this stack
 abbrev pub unit_at : Port → Tag → List Frame → DataUnit
 unit_at class label stack = record { class = class.id; label = label; stack = stack }
 
@@ -155,6 +162,7 @@ Circuit T r hops = (ends : Ends T r) × ((stack : List Frame) → Joins ends hop
 
 -- Weights and the outcome
 
+-- the cost of a link or a service
 abbrev pub cost_of_element : Element → ℕ
 cost_of_element (element.Link l) = l.cost
 cost_of_element (element.Switching s) = s.cost
@@ -164,6 +172,7 @@ cost_of_element (element.Conversion c) = c.cost
 cost_of_element (element.Node n) = 0
 cost_of_element (element.Port p) = 0
 
+-- the cost of the element of a hop
 abbrev pub cost_of : Topology → Hop → ℕ
 cost_of T h = unwrap_or (option_map (λ (p : Placed). cost_of_element p.element) (element_named T h.element)) 0
 
@@ -178,6 +187,8 @@ pub record IsLeastWeight (T : Topology) (r : Request) (w : FullWeight) : Type 0 
   pub weight : weight_of T hops ≡ w
   pub least : (others : List Hop) → Walk T r others → IsAtMost w (weight_of T others)
 
+-- What becomes of a request: no walk; every walk costs 2 ^ 64 or more; the least weight, within the hop limit; or the
+-- least weight as it is capped, where its hops are over the limit.
 abbrev pub IsOutcome : Topology → Request → Outcome → Type 0
 IsOutcome T r NoWalk = (hops : List Hop) → ¬ Walk T r hops
 IsOutcome T r Past =

@@ -1,4 +1,4 @@
-use Rattle.std.proofs.Common.{◌≡◌, inl, inr, [], ◌∷◌, Option, None, Some, codes, refl}
+use Rattle.std.proofs.Common.{◌≡◌, inl, inr, [], ◌∷◌, None, Some, codes, refl}
 use Rattle.nml_elements.specs.declared.elements.Labels.TheVariants.{Unlabelled}
 use Rattle.circuit_spec.specs.Network.{Name, Port}
 use Rattle.circuit_spec.proofs.rows.mislabelled_aliases.Goals as goal
