@@ -1,1 +1,8 @@
+pub mod Gives
+pub mod IdTest
+pub mod Kind
 pub mod Labels
+pub mod MemberReading
+pub mod LabelReading
+pub mod ElementReading
+pub mod FileReading
