@@ -6,3 +6,6 @@ pub mod MemberReading
 pub mod LabelReading
 pub mod ElementReading
 pub mod FileReading
+pub mod Kept
+pub mod ElementWriting
+pub mod FileWriting
