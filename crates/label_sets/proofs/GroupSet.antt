@@ -138,9 +138,9 @@ spelt_set text set spelt =
     let g = group_run text spelt.items spelt.group in
     let some : SomeRanges = with_range g.last (set_of g.before) in
     let read : group_from text (range_of (run fresh text).state) ≡ Ok some =
-      ap (λ (f : Front). group_from text (range_of f.state)) g.run_is
-      ∙ ap (group_from text) g.ends
-      ∙ ap (λ (f : Front). Ok (with_range g.last (set_of f.ranges))) g.run_is in
+    ap (λ (f : Front). group_from text (range_of f.state)) g.run_is
+    ∙ ap (group_from text) g.ends
+    ∙ ap (λ (f : Front). Ok (with_range g.last (set_of f.ranges))) g.run_is in
     let ours = set_of_items g.before g.last (subst AreFitting g.ranges_are (group_fitting text spelt.items spelt.group)) in
     (some, read, set_is_one (has (g.before ++ g.last ∷ [])) set (all_of some) (subst (λ items. IsSetOf (has items) set) g.ranges_are spelt.labels) ours)
 
@@ -169,13 +169,16 @@ IsLongest most at text = (at ≤ most) × IsFront text at × AreNone at most tex
 
 longest_by : (k : ℕ) (text : List ℕ) (b : Bool) → accepts (take (suc k) text) ≡ b → IsLongest k (longest_within k text) text → IsLongest (suc k) (cond b (suc k) (longest_within k text)) text
 longest_by k text true e so_far = (omega arith, inr e, λ j more le. absurd (omega (arith, more, le)))
-longest_by k text false e so_far =
-    (omega (arith, so_far.0), so_far.1, λ j more le. elim (cases_lt j (suc k)) [
-      | inl less ↦ so_far.2 j more (omega (arith, less))
-      | inr full ↦
-          let here : j ≡ suc k = omega (arith, full, le) in
-          ap (λ n. accepts (take n text)) here ∙ e
-    ])
+longest_by k text false e so_far = (
+  omega (arith, so_far.0),
+  so_far.1,
+  λ j more le. elim (cases_lt j (suc k)) [
+    | inl less ↦ so_far.2 j more (omega (arith, less))
+    | inr full ↦
+        let here : j ≡ suc k = omega (arith, full, le) in
+        ap (λ n. accepts (take n text)) here ∙ e
+  ],
+)
 
 longest_holds : (most : ℕ) (text : List ℕ) → IsLongest most (longest_within most text) text
 unfolding longest_within

@@ -47,8 +47,13 @@ pub domain_read : (domain : Domain) → IsIdText domain.id → MayBeId domain.en
 unfolding domain_at domain_data
 domain_read domain id encoding kept counted few =
     let ps = domain_parts domain in
-    rw (format_written domain, id_written 3 (codes "topology") ps domain.id refl id, optional_id_written 4 (codes "encoding") ps domain.encoding refl encoding,
-    array_written domain few, entries_read 1 domain.elements counted kept) refl
+    rw (
+      format_written domain,
+      id_written 3 (codes "topology") ps domain.id refl id,
+      optional_id_written 4 (codes "encoding") ps domain.encoding refl encoding,
+      array_written domain few,
+      entries_read 1 domain.elements counted kept,
+    ) refl
 
 pub bytes_read : (bytes : List ℕ) (domain : Domain) → IsUtf8 bytes → read bytes ≡ Some (domain_data domain) → domain_at (domain_data domain) ≡ Ok domain → domain_of bytes ≡ Ok domain
 unfolding domain_of

@@ -34,8 +34,13 @@ node_read : (node : NodeE) → KeepsNode node → IsReadBack (elements.Node node
 unfolding element_data kind_at node_at
 node_read node k =
     let ps = node_parts node in
-    rw (typed ps (codes "Node") refl, id_written 8 (codes "id") ps node.id refl k.id, relation_written (codes "hasInboundPort") ps node.inbound refl k.inbound,
-    relation_written (codes "hasOutboundPort") ps node.outbound refl k.outbound, relation_written (codes "hasService") ps node.services refl k.services) refl
+    rw (
+      typed ps (codes "Node") refl,
+      id_written 8 (codes "id") ps node.id refl k.id,
+      relation_written (codes "hasInboundPort") ps node.inbound refl k.inbound,
+      relation_written (codes "hasOutboundPort") ps node.outbound refl k.outbound,
+      relation_written (codes "hasService") ps node.services refl k.services,
+    ) refl
 
 abbrev regrouped : (group : Bool) (port : PortE) → IsTrue (fits_group group port.labels) → PortE
 regrouped group port fits = record {
@@ -55,14 +60,28 @@ port_by : (group : Bool) (port : PortE) (fits : IsTrue (fits_group group port.la
 unfolding kind_at port_at
 port_by true port fits k =
     let ps = port_parts true port in
-    rw (typed ps (codes "PortGroup") refl, id_written 8 (codes "id") ps port.id refl k.id, optional_id_written 4 (codes "encoding") ps port.encoding refl k.encoding,
-    labels_written true port.labels fits k.labels ps refl, relation_written (codes "isSource") ps port.sources refl k.sources, relation_written (codes "isSink") ps port.sinks refl k.sinks,
-    relation_written (codes "hasService") ps port.services refl k.services, relation_written (codes "isAlias") ps port.aliases refl k.aliases) refl
+    rw (
+      typed ps (codes "PortGroup") refl,
+      id_written 8 (codes "id") ps port.id refl k.id,
+      optional_id_written 4 (codes "encoding") ps port.encoding refl k.encoding,
+      labels_written true port.labels fits k.labels ps refl,
+      relation_written (codes "isSource") ps port.sources refl k.sources,
+      relation_written (codes "isSink") ps port.sinks refl k.sinks,
+      relation_written (codes "hasService") ps port.services refl k.services,
+      relation_written (codes "isAlias") ps port.aliases refl k.aliases,
+    ) refl
 port_by false port fits k =
     let ps = port_parts false port in
-    rw (typed ps (codes "Port") refl, id_written 8 (codes "id") ps port.id refl k.id, optional_id_written 4 (codes "encoding") ps port.encoding refl k.encoding,
-    labels_written false port.labels fits k.labels ps refl, relation_written (codes "isSource") ps port.sources refl k.sources, relation_written (codes "isSink") ps port.sinks refl k.sinks,
-    relation_written (codes "hasService") ps port.services refl k.services, relation_written (codes "isAlias") ps port.aliases refl k.aliases) refl
+    rw (
+      typed ps (codes "Port") refl,
+      id_written 8 (codes "id") ps port.id refl k.id,
+      optional_id_written 4 (codes "encoding") ps port.encoding refl k.encoding,
+      labels_written false port.labels fits k.labels ps refl,
+      relation_written (codes "isSource") ps port.sources refl k.sources,
+      relation_written (codes "isSink") ps port.sinks refl k.sinks,
+      relation_written (codes "hasService") ps port.services refl k.services,
+      relation_written (codes "isAlias") ps port.aliases refl k.aliases,
+    ) refl
 
 port_read : (port : PortE) → KeepsPort port → IsReadBack (elements.Port port)
 unfolding element_data
@@ -73,12 +92,22 @@ link_by : (group : Bool) (link : LinkE) (fits : IsTrue (fits_group group link.la
 unfolding kind_at link_at
 link_by true link fits k =
     let ps = link_parts true link in
-    rw (typed ps (codes "LinkGroup") refl, id_written 8 (codes "id") ps link.id refl k.id, optional_id_written 4 (codes "encoding") ps link.encoding refl k.encoding,
-    labels_written true link.labels fits k.labels ps refl, cost_written ps link.cost refl) refl
+    rw (
+      typed ps (codes "LinkGroup") refl,
+      id_written 8 (codes "id") ps link.id refl k.id,
+      optional_id_written 4 (codes "encoding") ps link.encoding refl k.encoding,
+      labels_written true link.labels fits k.labels ps refl,
+      cost_written ps link.cost refl,
+    ) refl
 link_by false link fits k =
     let ps = link_parts false link in
-    rw (typed ps (codes "Link") refl, id_written 8 (codes "id") ps link.id refl k.id, optional_id_written 4 (codes "encoding") ps link.encoding refl k.encoding,
-    labels_written false link.labels fits k.labels ps refl, cost_written ps link.cost refl) refl
+    rw (
+      typed ps (codes "Link") refl,
+      id_written 8 (codes "id") ps link.id refl k.id,
+      optional_id_written 4 (codes "encoding") ps link.encoding refl k.encoding,
+      labels_written false link.labels fits k.labels ps refl,
+      cost_written ps link.cost refl,
+    ) refl
 
 link_read : (link : LinkE) → KeepsLink link → IsReadBack (elements.Link link)
 unfolding element_data
@@ -88,16 +117,26 @@ switch_read : (switch : SwitchE) → KeepsSwitch switch → IsReadBack (elements
 unfolding element_data kind_at switch_at
 switch_read switch k =
     let ps = switch_parts switch in
-    rw (typed ps (codes "SwitchingService") refl, id_written 8 (codes "id") ps switch.id refl k.id, optional_id_written 4 (codes "encoding") ps switch.encoding refl k.encoding,
-    swapping_written ps switch.swapping refl, cost_written ps switch.cost refl,
-    optional_relation_written (codes "hasInboundPort") ps switch.inbound refl k.inbound, optional_relation_written (codes "hasOutboundPort") ps switch.outbound refl k.outbound) refl
+    rw (
+      typed ps (codes "SwitchingService") refl,
+      id_written 8 (codes "id") ps switch.id refl k.id,
+      optional_id_written 4 (codes "encoding") ps switch.encoding refl k.encoding,
+      swapping_written ps switch.swapping refl,
+      cost_written ps switch.cost refl,
+      optional_relation_written (codes "hasInboundPort") ps switch.inbound refl k.inbound,
+      optional_relation_written (codes "hasOutboundPort") ps switch.outbound refl k.outbound,
+    ) refl
 
 adapt_by : (text : List ℕ) (adapt : AdaptE) → KeepsAdapt adapt → adapt_at (object_of (adapt_parts text adapt)) ≡ Ok adapt
 unfolding adapt_at
 adapt_by text adapt k =
     let ps = adapt_parts text adapt in
-    rw (id_written 8 (codes "id") ps adapt.id refl k.id, id_written 11 (codes "adaptationFunction") ps adapt.function refl k.function,
-    cost_written ps adapt.cost refl, relation_written (codes "providesPort") ps adapt.ports refl k.ports) refl
+    rw (
+      id_written 8 (codes "id") ps adapt.id refl k.id,
+      id_written 11 (codes "adaptationFunction") ps adapt.function refl k.function,
+      cost_written ps adapt.cost refl,
+      relation_written (codes "providesPort") ps adapt.ports refl k.ports,
+    ) refl
 
 adaptation_read : (adapt : AdaptE) → KeepsAdapt adapt → IsReadBack (elements.Adaptation adapt)
 unfolding element_data kind_at
@@ -111,8 +150,13 @@ conv_read : (conv : ConvE) → KeepsConv conv → IsReadBack (elements.Conversio
 unfolding element_data kind_at conv_at
 conv_read conv k =
     let ps = conv_parts conv in
-    rw (typed ps (codes "ConversionService") refl, id_written 8 (codes "id") ps conv.id refl k.id, cost_written ps conv.cost refl,
-    relation_written (codes "hasInboundPort") ps conv.inbound refl k.inbound, relation_written (codes "hasOutboundPort") ps conv.outbound refl k.outbound) refl
+    rw (
+      typed ps (codes "ConversionService") refl,
+      id_written 8 (codes "id") ps conv.id refl k.id,
+      cost_written ps conv.cost refl,
+      relation_written (codes "hasInboundPort") ps conv.inbound refl k.inbound,
+      relation_written (codes "hasOutboundPort") ps conv.outbound refl k.outbound,
+    ) refl
 
 pub element_read : (element : Element) → Keeps element → IsReadBack element
 element_read (elements.Node node) k = node_read node k

@@ -6,8 +6,9 @@ ghost use Rattle.nml_elements.specs.ElementReading.{element_at};
 ghost use Rattle.nml_elements.specs.FileReading.{AreNumbered, Reads, Misses, located, at_element, with_entry, entries_at, format_at, elements_part, array_at, domain_at, json_of, domain_of};
 
 use crate::element_reading::element_of;
+use crate::fault::MemberFault;
 use crate::member_reading::{optional_id_of, part, required_id_of};
-use crate::{Domain, Element, ElementList, Entry, MemberFault, ReadFault};
+use crate::{Domain, Element, ElementList, Entry, ReadFault};
 use ml_base::{Id, NoMemory};
 use serde_json::Value;
 use std::alloc::Global;

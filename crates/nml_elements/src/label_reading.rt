@@ -5,9 +5,10 @@ ghost use Rattle.label_sets.specs.GroupSet.{SomeRanges, all_of};
 ghost use Rattle.nml_elements.specs.Gives.{Fails, Gives};
 ghost use Rattle.nml_elements.specs.LabelReading.{unlabelled, value_part, values_part, set_at, label_at, group_label_at, labels_at};
 
+use crate::Labels;
+use crate::fault::MemberFault;
 use crate::fitted_labels::FittedLabels;
 use crate::member_reading::{part, required_id_of};
-use crate::{Labels, MemberFault};
 use label_sets::{LabelFault, LabelSet};
 use serde_json::Value;
 use std::alloc::Global;

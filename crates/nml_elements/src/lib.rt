@@ -19,11 +19,9 @@ pub use elements::{
     AdaptE, ConvE, Domain, DomainList, Element, ElementList, Entry, IdList, Labels, LinkE, NodeE,
     PortE, SwitchE,
 };
-pub use fault::{MemberFault, ReadFault};
+pub use fault::ReadFault;
 pub use file_reading::read_domain;
 pub use file_writing::write_domain;
-pub use fitted_labels::FittedLabels;
-pub use kind::Kind;
 pub use laws::ids_are_decided;
 
 #[cfg(test)]

@@ -4,7 +4,8 @@ ghost use Rattle.serde_json.specs.View.{view, items_view};
 ghost use Rattle.nml_elements.specs.Gives.{Gives};
 ghost use Rattle.nml_elements.specs.MemberReading.{part, id_at, required_id, optional_id, ids_at, array_at, relation, optional_relation, cost_at, swapping_at};
 
-use crate::{IdList, MemberFault};
+use crate::IdList;
+use crate::fault::MemberFault;
 use ml_base::{Id, IdFault};
 use serde_json::Value;
 use std::alloc::Global;

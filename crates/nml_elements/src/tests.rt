@@ -1,4 +1,4 @@
-use crate::{Element, Labels, ReadFault, read_domain};
+use crate::{Element, Labels, ReadFault, read_domain, write_domain};
 use std::test::Fail;
 
 #[test]
@@ -154,6 +154,21 @@ fn reads_a_port_and_a_group(rt: HostRuntime) -> Result<(), Fail> {
             _ => assert!(rt; false, "no link"),
         },
         None => assert!(rt; false, "no second entry"),
+    }
+    Ok(())
+}
+
+#[test]
+fn what_is_written_is_what_was_read(rt: HostRuntime) -> Result<(), Fail> {
+    let texts = [
+        r#"{"elements":[{"id":"a","isSource":["l"],"type":"Port"},{"id":"b","isSink":["l"],"type":"Port"},{"cost":1,"id":"l","type":"Link"}],"format":1,"topology":"d"}"#,
+        r#"{"elements":[],"format":1,"topology":"d"}"#,
+        r#"{"elements":[{"hasInboundPort":["p"],"hasOutboundPort":["p","p"],"hasService":["s"],"id":"n","type":"Node"},{"encoding":"eth","hasLabel":{"labeltype":"vlan","value":4294967295},"hasService":["a"],"id":"p","isAlias":["q"],"isSink":["l"],"isSource":["k"],"type":"Port"},{"hasLabelGroup":{"labeltype":"vlan","values":"7,100-250,300"},"id":"q","type":"PortGroup"},{"cost":0,"encoding":"eth","id":"l","type":"Link"},{"cost":18446744073709551615,"hasLabelGroup":{"labeltype":"vlan","values":"0-4294967295"},"id":"k","type":"LinkGroup"},{"cost":1,"hasInboundPort":[],"hasOutboundPort":["p"],"id":"s","labelSwapping":true,"type":"SwitchingService"},{"cost":1,"id":"t","type":"SwitchingService"},{"adaptationFunction":"gfp","cost":1,"id":"a","providesPort":["p"],"type":"AdaptationService"},{"adaptationFunction":"gfp","cost":1,"id":"d","type":"DeadaptationService"},{"cost":2,"hasInboundPort":["p"],"hasOutboundPort":["q"],"id":"c","type":"ConversionService"}],"encoding":"otn","format":1,"topology":"d"}"#,
+    ];
+    for text in texts {
+        let domain = read_domain(rt.alloc(), text.as_bytes())?;
+        let bytes = write_domain(rt.alloc(), &domain)?;
+        assert_eq!(rt; bytes.as_slice(), text.as_bytes());
     }
     Ok(())
 }
