@@ -1,1 +1,11 @@
+pub mod Gives
+pub mod IdTest
+pub mod Kind
 pub mod Labels
+pub mod MemberReading
+pub mod LabelReading
+pub mod ElementReading
+pub mod FileReading
+pub mod Kept
+pub mod ElementWriting
+pub mod FileWriting

@@ -83,6 +83,7 @@ pub struct ConvE {
     pub outbound: IdList,
 }
 
+/// An element of one of the nine types that are read. Other elements of a file are not.
 #[derive(Debug, Drop)]
 pub enum Element {
     Node(NodeE),
