@@ -1,0 +1,9 @@
+pub mod Places
+pub mod Numbers
+pub mod Kinds
+pub mod Aliases
+pub mod Lent
+pub mod Relations
+pub mod Tables
+pub mod Related
+pub mod ClassSets
