@@ -1,0 +1,4 @@
+pub mod Places
+pub mod Comparing
+pub mod Classes
+pub mod Found
