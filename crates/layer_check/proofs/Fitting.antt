@@ -2,7 +2,7 @@
 use Rattle.std.proofs.Common.{◌≡◌, ◌≢◌, ℕ, zero, suc, ◌+◌, ◌<◌, ◌≤◌, ◌⊎◌, inl, inr, List, [], ◌∷◌, Bool, true, false, Option, None, Some, length, refl, sym, ◌∙◌, ap, subst, arith, min}
 use Rattle.std.specs.Prelude.{◌||◌, slice_get, option_map}
 use Rattle.std.specs.List.{AllByRecursion}
-use Rattle.std.proofs.lemmas.Bool.{both_ways, or_left, or_right, or_cases}
+use Rattle.std.proofs.lemmas.Bool.{both_ways, eqb-true, eq-eqb, or_left, or_right, or_cases}
 use Rattle.std.proofs.lemmas.Option.{slice_get_within}
 use Rattle.ml_base.specs.declared.numbers.PortNo.{PortNo}
 use Rattle.circuit_spec.specs.declared.faults.LayerFault.{LayerFault}
@@ -12,10 +12,11 @@ use Rattle.circuit_spec.specs.Faults.{AliasFinds, ClassesFit, FirstFound, FirstM
 use Rattle.circuit_spec.proofs.ClassLemmas.{First-at, class_of_linked, linked_to_itself}
 use Rattle.nml_inventory.specs.Aliases.{IsClassNumber}
 use Rattle.std.specs.Str.{bytes_eq}
+use Rattle.std.proofs.Math.Dec.{eqb}
 use Rattle.layer_check.specs.Comparing.{other_encoding, other_type, passes_at}
 use Rattle.layer_check.specs.Classes.{is_other, IsFit, IsUnfit, IsUnfitClass, IsLeastUnfit, IsMemberThat, IsFirstMember}
 use Rattle.layer_check.specs.Places.{lesser_of, number_of}
-use Rattle.layer_check.specs.Found.{UnlessNoMemory, IsClassFault, IsAliasFault, Names}
+use Rattle.layer_check.specs.Found.{UnlessNoMemory, IsClassFault, IsAliasFault, IsNamed}
 use Rattle.layer_check.proofs.Answering.{unless, unless_map}
 use Rattle.layer_check.proofs.Once.{one_of_some, class_once, class_leads, linked_member, member_linked, first_stands}
 use Rattle.layer_check.proofs.Tests.{both_false, differing_encodings, differing_types, encoding_other, encoding_same, type_fits, type_other, is_false, passes_there}
@@ -43,8 +44,7 @@ least_from T k None None None merged before fit e = λ n below. elim (below_or_a
 least_from T k None None (Some c) merged before fit e = cc
 least_from T k None (Some h) None merged before unfit e = cc
 least_from T k None (Some h) (Some c) merged before unfit e =
-    let same : c.0 ≡ h.0 = one_of_some e in
-    (
+    let same : c.0 ≡ h.0 = one_of_some e in (
       (k, subst (λ (m : ℕ). IsUnfit T k m) (sym same) unfit),
       λ n below d other. elim (below_or_at n k below) [
         | inl less ↦ absurd (fit_unfit T n d merged (before n less) other)
@@ -53,8 +53,7 @@ least_from T k None (Some h) (Some c) merged before unfit e =
     )
 least_from T k (Some o) None None merged before fit e = cc
 least_from T k (Some o) None (Some c) merged before fit e =
-    let same : c.0 ≡ o.0 = one_of_some e in
-    (
+    let same : c.0 ≡ o.0 = one_of_some e in (
       (before.0.0, subst (λ (m : ℕ). IsUnfit T before.0.0 m) (sym same) before.0.1),
       λ n below d other. elim (below_or_at n k below) [
         | inl less ↦ let l = before.1 n less d other in omega arith
@@ -64,8 +63,7 @@ least_from T k (Some o) None (Some c) merged before fit e =
 least_from T k (Some o) (Some h) None merged before unfit e = cc
 least_from T k (Some o) (Some h) (Some c) merged before unfit e =
     let same : c.0 ≡ min o.0 h.0 = one_of_some e in
-    let which : (c.0 ≡ o.0) ⊎ (c.0 ≡ h.0) = grind arith in
-    (
+    let which : (c.0 ≡ o.0) ⊎ (c.0 ≡ h.0) = grind arith in (
       elim which [
         | inl x ↦ (before.0.0, subst (λ (m : ℕ). IsUnfit T before.0.0 m) (sym x) before.0.1)
         | inr x ↦ (k, subst (λ (m : ℕ). IsUnfit T k m) (sym x) unfit)
@@ -105,12 +103,12 @@ linked_first T i j p q x y merged at_i at_j linked =
 pub classes_fit : (T : Topology) → merge_faults T ≡ [] → ((n : ℕ) → n < length (ports T) → IsFit T n) → ClassesFit T
 classes_fit T merged fit =
     all_at _ (ports T) (λ i p at_i. all_at _ (ports T) (λ j q at_j linked.
-      let x = fit i (slice_get_within (ports T) i p at_i) in
-      let y = fit j (slice_get_within (ports T) j q at_j) in
-      let same = linked_first T i j p q x y merged at_i at_j linked in
-      let of_p = fits_first T i p x at_i in
-      let of_q = fits_first T j q y at_j in
-      (of_q.0 ∙ ap (λ (z : Port). z.encoding) (sym same) ∙ sym of_p.0, of_q.1 ∙ ap type_of (sym same) ∙ sym of_p.1)))
+    let x = fit i (slice_get_within (ports T) i p at_i) in
+    let y = fit j (slice_get_within (ports T) j q at_j) in
+    let same = linked_first T i j p q x y merged at_i at_j linked in
+    let of_p = fits_first T i p x at_i in
+    let of_q = fits_first T j q y at_j in
+    (of_q.0 ∙ ap (λ (z : Port). z.encoding) (sym same) ∙ sym of_p.0, of_q.1 ∙ ap type_of (sym same) ∙ sym of_p.1)))
 
 -- what is found of a class is found of a port that does not fit it
 unfit_by : (T : Topology) (j : ℕ) (y : Port) (P : Port → Type 0) (q : Port) → slice_get (ports T) j ≡ Some y → IsClass T y.id y → ((z : Port) → P z → is_other y z ≡ true) → FirstMember T y P q → (n : ℕ) × IsUnfit T n j
@@ -146,10 +144,10 @@ least_class_fault T c f merged least fault =
     let m = least.0.1.member in
     unless_map (AliasFinds T m.first) (λ g. FirstFound (AliasFinds T) (ports T) g) f
     (λ g here. found_at (AliasFinds T) (ports T) c.0 m.first g m.is_first here (λ j y less at other finds.
-      let u = finds_unfit T j y other at finds in
-      let w = slice_get_within (ports T) u.0 u.1.member.port u.1.member.is_port in
-      let l = least.1 u.0 w j u.1 in
-      omega (arith, l, less)))
+    let u = finds_unfit T j y other at finds in
+    let w = slice_get_within (ports T) u.0 u.1.member.port u.1.member.is_port in
+    let l = least.1 u.0 w j u.1 in
+    omega (arith, l, less)))
     (fault m.first m.is_first)
 
 -- the class that some port does not fit names itself
@@ -172,18 +170,17 @@ first_member T p test P class k leads at to back first =
     let m = first.0.member in
     let same : m.first ≡ p = one_of_some (sym m.is_first ∙ at) in
     let lead : leads.first ≡ p = one_of_some (sym leads.is_first ∙ at) in
-    let linked : Linked T p.id m.port.id = subst (λ (x : Port). Linked T x.id m.port.id) same (member_linked T k.0 class m) in
-    (
+    let linked : Linked T p.id m.port.id = subst (λ (x : Port). Linked T x.id m.port.id) same (member_linked T k.0 class m) in (
       m.port,
       First-at (λ q. Linked T p.id q.id × P q) (ports T) k.0 m.port m.is_port (linked, to m.port first.0.passes)
-      (λ j y less there other.
-        let l : Linked T leads.first.id y.id = subst (λ (x : Port). Linked T x.id y.id) (sym lead) other.0 in
-        let w = linked_member T j class y leads there l in
-        first.1 j less (record { member = w; passes = ap test (one_of_some (sym w.is_port ∙ there)) ∙ back y other.1 })),
+          (λ j y less there other.
+          let l : Linked T leads.first.id y.id = subst (λ (x : Port). Linked T x.id y.id) (sym lead) other.0 in
+          let w = linked_member T j class y leads there l in
+          first.1 j less (record { member = w; passes = ap test (one_of_some (sym w.is_port ∙ there)) ∙ back y other.1 })),
       m.is_port,
     )
 
-named_by : (make : Name → Name → LayerFault) (P : LayerFault → Type 0) (a b : Name) (f : LayerFault) → Names make a b f → P (make a b) → ((g : LayerFault) → P g → UnlessNoMemory P g) → UnlessNoMemory P f
+named_by : (make : Name → Name → LayerFault) (P : LayerFault → Type 0) (a b : Name) (f : LayerFault) → IsNamed make a b f → P (make a b) → ((g : LayerFault) → P g → UnlessNoMemory P g) → UnlessNoMemory P f
 named_by make P a b f (inl none) here to = subst (UnlessNoMemory P) (sym none) tt
 named_by make P a b f (inr is) here to = subst (UnlessNoMemory P) (sym is) (to (make a b) here)
 
@@ -198,7 +195,7 @@ leads_itself T class p leads at =
     let first : leads.first ≡ p = one_of_some (sym leads.is_first ∙ at) in
     subst (λ (x : Port). IsClass T x.id p) port (subst (λ (x : Port). IsClass T leads.port.id x) first leads.is_class)
 
-pub encoding_fault : (T : Topology) (class : ℕ) (k : PortNo) (first : Port) (a b : Name) (f : LayerFault) → IsClassNumber T class class → slice_get (ports T) class ≡ Some first → IsFirstMember T (other_encoding first) class (Some k) → option_map (λ (q : Port). q.id) (slice_get (ports T) class) ≡ Some a → option_map (λ (q : Port). q.id) (slice_get (ports T) k.0) ≡ Some b → Names AliasEncoding a b f → IsClassFault T class f
+pub encoding_fault : (T : Topology) (class : ℕ) (k : PortNo) (first : Port) (a b : Name) (f : LayerFault) → IsClassNumber T class class → slice_get (ports T) class ≡ Some first → IsFirstMember T (other_encoding first) class (Some k) → option_map (λ (q : Port). q.id) (slice_get (ports T) class) ≡ Some a → option_map (λ (q : Port). q.id) (slice_get (ports T) k.0) ≡ Some b → IsNamed AliasEncoding a b f → IsClassFault T class f
 encoding_fault T class k first a b f leads at_first found named_a named_b names p at =
     let same : first ≡ p = one_of_some (sym at_first ∙ at) in
     let there = subst (λ (x : Port). IsFirstMember T (other_encoding x) class (Some k)) same found in
@@ -211,11 +208,11 @@ none_differs : (T : Topology) (class : ℕ) (p : Port) → IsClassNumber T class
 none_differs T class p leads at none =
     let lead : leads.first ≡ p = one_of_some (sym leads.is_first ∙ at) in
     all_at _ (ports T) (λ j q there linked.
-      let l : Linked T leads.first.id q.id = subst (λ (x : Port). Linked T x.id q.id) (sym lead) linked in
-      let w = linked_member T j class q leads there l in
-      encoding_same p q (is_false (other_encoding p q) (λ h. none j (record { member = w; passes = ap (other_encoding p) (one_of_some (sym w.is_port ∙ there)) ∙ h }))))
+    let l : Linked T leads.first.id q.id = subst (λ (x : Port). Linked T x.id q.id) (sym lead) linked in
+    let w = linked_member T j class q leads there l in
+    encoding_same p q (is_false (other_encoding p q) (λ h. none j (record { member = w; passes = ap (other_encoding p) (one_of_some (sym w.is_port ∙ there)) ∙ h }))))
 
-pub type_fault : (T : Topology) (class : ℕ) (k : PortNo) (first : Port) (a b : Name) (f : LayerFault) → IsClassNumber T class class → slice_get (ports T) class ≡ Some first → IsFirstMember T (other_encoding first) class None → IsFirstMember T (other_type first) class (Some k) → option_map (λ (q : Port). q.id) (slice_get (ports T) class) ≡ Some a → option_map (λ (q : Port). q.id) (slice_get (ports T) k.0) ≡ Some b → Names AliasLabelType a b f → IsClassFault T class f
+pub type_fault : (T : Topology) (class : ℕ) (k : PortNo) (first : Port) (a b : Name) (f : LayerFault) → IsClassNumber T class class → slice_get (ports T) class ≡ Some first → IsFirstMember T (other_encoding first) class None → IsFirstMember T (other_type first) class (Some k) → option_map (λ (q : Port). q.id) (slice_get (ports T) class) ≡ Some a → option_map (λ (q : Port). q.id) (slice_get (ports T) k.0) ≡ Some b → IsNamed AliasLabelType a b f → IsClassFault T class f
 type_fault T class k first a b f leads at_first alike found named_a named_b names p at =
     let same : first ≡ p = one_of_some (sym at_first ∙ at) in
     let there = subst (λ (x : Port). IsFirstMember T (other_type x) class (Some k)) same found in
@@ -242,21 +239,18 @@ unfit_here T n c r m is e = record { member = m; differs = sym (is m.first m.por
 pub fit_here : (T : Topology) (n c : ℕ) (r : Bool) → IsClassNumber T n c → ((p q : Port) → slice_get (ports T) c ≡ Some p → slice_get (ports T) n ≡ Some q → r ≡ is_other p q) → r ≡ false → IsFit T n
 fit_here T n c r m is e = record { class_number = c; member = m; fits = sym (is m.first m.port m.is_first m.is_port) ∙ e }
 
-pub member_iff : (T : Topology) (test : Port → Bool) (n : ℕ) (found wanted : PortNo) (r : Bool) → IsClassNumber T n found.0 → found ≡ wanted → r ≡ passes_at T test n → (r ≡ true → IsMemberThat T test wanted.0 n) × (IsMemberThat T test wanted.0 n → r ≡ true)
+pub member_iff : (T : Topology) (test : Port → Bool) (n : ℕ) (found wanted : ℕ) (r : Bool) → IsClassNumber T n found → eqb found wanted ≡ true → r ≡ passes_at T test n → (r ≡ true → IsMemberThat T test wanted n) × (IsMemberThat T test wanted n → r ≡ true)
 member_iff T test n found wanted r m same is =
-    let w : IsClassNumber T n wanted.0 = subst (λ (x : PortNo). IsClassNumber T n x.0) same m in
-    (
+    let w : IsClassNumber T n wanted = subst (λ (x : ℕ). IsClassNumber T n x) (eqb-true found wanted same) m in (
       λ h. record { member = w; passes = sym (passes_there T test n w.port w.is_port) ∙ sym is ∙ h },
       λ x. is ∙ passes_there T test n x.member.port x.member.is_port ∙ x.passes,
     )
 
-pub no_member : (T : Topology) (test : Port → Bool) (n : ℕ) (found wanted : PortNo) (r : Bool) → merge_faults T ≡ [] → IsClassNumber T n found.0 → r ≡ false → (found ≡ wanted → r ≡ true) → (r ≡ true → IsMemberThat T test wanted.0 n) × (IsMemberThat T test wanted.0 n → r ≡ true)
-no_member T test n found wanted r merged m other same =
-    let port : ℕ → PortNo = λ k. record { 0 = k } in
-    (
-      λ h. absurd (both_ways r other h),
-      λ x. same (ap port (class_once T n found.0 wanted.0 merged m x.member)),
-    )
+pub no_member : (T : Topology) (test : Port → Bool) (n found wanted : ℕ) (r : Bool) → merge_faults T ≡ [] → IsClassNumber T n found → r ≡ eqb found wanted → r ≡ false → (r ≡ true → IsMemberThat T test wanted n) × (IsMemberThat T test wanted n → r ≡ true)
+no_member T test n found wanted r merged m is other = (
+  λ h. absurd (both_ways r other h),
+  λ x. is ∙ eq-eqb found wanted (class_once T n found wanted merged m x.member),
+)
 
 -- one more port that is no such member
 pub none_more : (T : Topology) (test : Port → Bool) (class k : ℕ) (r : Bool) → ((n : ℕ) → n < k → ¬ IsMemberThat T test class n) → (IsMemberThat T test class k → r ≡ true) → r ≡ false → (n : ℕ) → n < k + 1 → ¬ IsMemberThat T test class n

@@ -3,3 +3,8 @@ pub mod PortTypes
 pub mod Tests
 pub mod Fitting
 pub mod Answering
+pub mod FirstPlaces
+pub mod Differing
+pub mod OfElements
+pub mod Searching
+pub mod FirstFaults

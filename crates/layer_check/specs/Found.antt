@@ -2,6 +2,8 @@
 use Rattle.std.specs.Prelude.{◌≡◌, ◌⊎◌, ℕ, List, Some, slice_get}
 use Rattle.circuit_spec.specs.declared.faults.LayerFault.{LayerFault}
 use Rattle.circuit_spec.specs.declared.faults.LayerFault.TheVariants.{AliasEncoding, AliasLabelType, LinkLayer, LinkLabelType, SwitchLayer, SwitchLabelType, NoMemory}
+use Rattle.layer_check.specs.declared.making.FaultKind.{FaultKind}
+use Rattle.layer_check.specs.declared.making.FaultKind.TheVariants as kind
 use Rattle.circuit_spec.specs.Network.{Name, Topology, Port, ports}
 use Rattle.circuit_spec.specs.Faults.{AliasFinds, FirstFound, IsFirstLayerFault, IsFirstOf}
 
@@ -32,5 +34,14 @@ abbrev pub IsAliasFault : Topology → LayerFault → Type 0
 IsAliasFault T fault = UnlessNoMemory (λ f. FirstFound (AliasFinds T) (ports T) f) fault
 
 -- want of memory, or the fault of these two ids
-abbrev pub Names : (Name → Name → LayerFault) → Name → Name → LayerFault → Type 0
-Names make first second fault = (fault ≡ NoMemory) ⊎ (fault ≡ make first second)
+abbrev pub IsNamed : (Name → Name → LayerFault) → Name → Name → LayerFault → Type 0
+IsNamed make first second fault = (fault ≡ NoMemory) ⊎ (fault ≡ make first second)
+
+-- the fault of a kind, by the ids that it names
+abbrev pub made_by : FaultKind → Name → Name → LayerFault
+made_by kind.AliasEncoding first second = AliasEncoding first second
+made_by kind.AliasLabelType first second = AliasLabelType first second
+made_by kind.LinkLayer first second = LinkLayer first second
+made_by kind.LinkLabelType first second = LinkLabelType first second
+made_by kind.SwitchLayer first second = SwitchLayer first second
+made_by kind.SwitchLabelType first second = SwitchLabelType first second

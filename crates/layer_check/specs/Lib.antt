@@ -2,3 +2,5 @@ pub mod Places
 pub mod Comparing
 pub mod Classes
 pub mod Found
+pub mod Related
+pub mod Elements

@@ -1,16 +1,16 @@
 ghost use Rattle.std.specs.Prelude.{◌≡◌, ◌<◌, ℕ, Some, IfErr, OnOk, length, slice_get};
 ghost use Rattle.circuit_spec.specs.Faults.{ClassesFit};
 ghost use Rattle.circuit_spec.specs.Network.{Port, ports};
-ghost use Rattle.circuit_spec.specs.declared.faults.LayerFault.TheVariants.{AliasEncoding, AliasLabelType};
 ghost use Rattle.nml_inventory.specs.Aliases.{IsClassNumber};
 ghost use Rattle.layer_check.specs.Classes.{is_other, IsLeastUnfit, IsUnfit, IsUnfitClass};
-ghost use Rattle.layer_check.specs.Found.{IsAliasFault, IsClassFault, Names};
+ghost use Rattle.layer_check.specs.Found.{IsAliasFault, IsClassFault};
 
 use crate::comparing::{Reference, differs, type_at};
+use crate::making::{FaultKind, fault_of};
 use crate::members::first_other_member;
 use crate::numbers::lesser;
 use circuit_spec::LayerFault;
-use ml_base::{Id, PortNo};
+use ml_base::PortNo;
 use nml_inventory::Inventory;
 
 /// Whether a port has another encoding or another label type than the first port of its class.
@@ -48,24 +48,6 @@ fn first_unfit_class(inventory: &Inventory) -> Option<PortNo>
     first
 }
 
-fn alias_encoding(first: &Id, second: &Id) -> LayerFault
-    ensures { Names AliasEncoding first.now second.now result }
-{
-    match (first.share(), second.share()) {
-        (Ok(first), Ok(second)) => LayerFault::AliasEncoding { first, second },
-        _ => LayerFault::NoMemory,
-    }
-}
-
-fn alias_label_type(first: &Id, second: &Id) -> LayerFault
-    ensures { Names AliasLabelType first.now second.now result }
-{
-    match (first.share(), second.share()) {
-        (Ok(first), Ok(second)) => LayerFault::AliasLabelType { first, second },
-        _ => LayerFault::NoMemory,
-    }
-}
-
 /// Whether all ports of a class fit its first port, or what is wrong with the first that does not.
 fn check_class(inventory: &Inventory, class: PortNo) -> Result<(), LayerFault>
     requires { IsClassNumber inventory.now class.0 class.0 }
@@ -74,11 +56,19 @@ fn check_class(inventory: &Inventory, class: PortNo) -> Result<(), LayerFault>
 {
     let encoding = Reference::Encoding(inventory.encoding_of(class));
     if let Some(other) = first_other_member(inventory, class, encoding) {
-        return Err(alias_encoding(inventory.name(class), inventory.name(other)));
+        return Err(fault_of(
+            FaultKind::AliasEncoding,
+            inventory.name(class),
+            inventory.name(other),
+        ));
     }
     let labeltype = Reference::LabelType(type_at(inventory, class));
     if let Some(other) = first_other_member(inventory, class, labeltype) {
-        return Err(alias_label_type(inventory.name(class), inventory.name(other)));
+        return Err(fault_of(
+            FaultKind::AliasLabelType,
+            inventory.name(class),
+            inventory.name(other),
+        ));
     }
     Ok(())
 }

@@ -4,8 +4,13 @@
 mod checking;
 mod classes;
 mod comparing;
+mod ends;
+mod links;
+mod making;
 mod members;
 mod numbers;
+mod related;
+mod services;
 
 pub use checking::check;
 pub use circuit_spec::LayerFault;

@@ -8,12 +8,7 @@ use ml_base::PortNo;
 use nml_inventory::Inventory;
 
 /// Whether a port is of the class, and differs from the reference.
-fn is_other_member(
-    inventory: &Inventory,
-    class: PortNo,
-    reference: Reference,
-    port: PortNo,
-) -> bool
+fn is_other_member(inventory: &Inventory, class: PortNo, reference: Reference, port: PortNo) -> bool
     requires { port.0 < length (ports inventory.now) }
     ensures { IsTrue result ↔ IsMemberThat inventory.now (differs_from reference.entry) class.0 port.0 }
 {

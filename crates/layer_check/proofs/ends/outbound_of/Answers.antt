@@ -1,0 +1,4 @@
+use Rattle.layer_check.proofs.ends.outbound_of.Goals as goal
+
+pub returns : goal.returns
+returns c = ?
