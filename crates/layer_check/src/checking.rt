@@ -10,6 +10,7 @@ use nml_inventory::Inventory;
 
 /// Whether the layers of a topology fit, or the first fault of them: first of the classes of aliases in the order of their first
 /// ports, then of the links and then of the switching services in the order of elements. A fault names ids of elements.
+#[tactic(auto, using(crate::proofs::FirstFaults::link_first))]
 pub fn check(inventory: &Inventory) -> Result<(), LayerFault>
     ensures sound { OnOk result (IsSound inventory.now) }
     ensures fault { IfErr result (IsLayerFault inventory.now) }

@@ -55,6 +55,7 @@ fn check_class(inventory: &Inventory, class: PortNo) -> Result<(), LayerFault>
     ensures fault { IfErr result (IsClassFault inventory.now class.0) }
 {
     let encoding = Reference::Encoding(inventory.encoding_of(class));
+    let labeltype = Reference::LabelType(type_at(inventory, class));
     if let Some(other) = first_other_member(inventory, class, encoding) {
         return Err(fault_of(
             FaultKind::AliasEncoding,
@@ -62,7 +63,6 @@ fn check_class(inventory: &Inventory, class: PortNo) -> Result<(), LayerFault>
             inventory.name(other),
         ));
     }
-    let labeltype = Reference::LabelType(type_at(inventory, class));
     if let Some(other) = first_other_member(inventory, class, labeltype) {
         return Err(fault_of(
             FaultKind::AliasLabelType,

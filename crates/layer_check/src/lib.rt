@@ -4,13 +4,15 @@
 mod checking;
 mod classes;
 mod comparing;
-mod ends;
 mod links;
 mod making;
 mod members;
 mod numbers;
 mod related;
 mod services;
+
+#[cfg(test)]
+mod tests;
 
 pub use checking::check;
 pub use circuit_spec::LayerFault;

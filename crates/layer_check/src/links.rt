@@ -8,7 +8,6 @@ ghost use Rattle.layer_check.specs.Found.{IsFaultIn};
 ghost use Rattle.layer_check.specs.Elements.{link_faults_at};
 
 use crate::comparing::type_in;
-use crate::ends::{sinks_of, sources_of};
 use crate::making::FaultKind;
 use crate::related::{Related, check_related};
 use circuit_spec::LayerFault;
@@ -34,8 +33,8 @@ fn check_link<'a>(inventory: &'a Inventory, number: u64, link: &'a LinkE) -> Res
         id: &link.id,
         encoding: link.encoding.as_ref(),
         own_type: type_in(&link.labels),
-        one: sources_of(inventory, number),
-        other: sinks_of(inventory, number),
+        one: inventory.sources_of(number),
+        other: inventory.sinks_of(number),
         layer: FaultKind::LinkLayer,
         label_type: FaultKind::LinkLabelType,
     };

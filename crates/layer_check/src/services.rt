@@ -7,7 +7,6 @@ ghost use Rattle.circuit_spec.specs.Faults.{switch_faults};
 ghost use Rattle.layer_check.specs.Found.{IsFaultIn};
 ghost use Rattle.layer_check.specs.Elements.{switch_faults_at};
 
-use crate::ends::{inbound_of, outbound_of};
 use crate::making::FaultKind;
 use crate::related::{Related, check_related};
 use circuit_spec::LayerFault;
@@ -37,8 +36,8 @@ fn check_service<'a>(
         id: &service.id,
         encoding: service.encoding.as_ref(),
         own_type: None,
-        one: inbound_of(inventory, number),
-        other: outbound_of(inventory, number),
+        one: inventory.inbound_of(number),
+        other: inventory.outbound_of(number),
         layer: FaultKind::SwitchLayer,
         label_type: FaultKind::SwitchLabelType,
     };
