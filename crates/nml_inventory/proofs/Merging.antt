@@ -21,7 +21,6 @@ use Rattle.nml_inventory.proofs.ClassNumbers.{port_id}
 use Rattle.nml_inventory.proofs.Distinct.{AreDistinct, same_place}
 use Rattle.nml_inventory.proofs.Gets.{one_of_some}
 use Rattle.nml_inventory.proofs.PortNumbers.{distinct_ports, some_at}
-use Rattle.alias_merge.proofs.Sorting.{range_more}
 
 and_true : (b : Bool) → (b && true) ≡ b
 and_true true = refl
@@ -91,6 +90,13 @@ set_cases (x ∷ xs) zero v zero y at = inl (refl, one_of_some at)
 set_cases (x ∷ xs) zero v (suc n) y at = inr ((λ e. omega arith), at)
 set_cases (x ∷ xs) (suc k) v zero y at = inr ((λ e. omega arith), at)
 set_cases (x ∷ xs) (suc k) v (suc n) y at = elim (set_cases xs k v n y at) [ inl p ↦ inl (ap suc p.0, p.1) | inr p ↦ inr ((λ e. p.0 (omega (arith, e))), p.1) ]
+
+range_more : (s n : ℕ) → range_with_len s (n + 1) ≡ range_with_len s n ++ (s + n) ∷ []
+range_more s zero = let e : s ≡ s + 0 = omega arith in ap (λ y. y ∷ []) e
+range_more s (suc n) =
+    let f : suc n + 1 ≡ suc (n + 1) = omega arith in
+    let e : s + 1 + n ≡ s + suc n = omega arith in
+    ap (range_with_len s) f ∙ ap (λ ys. s ∷ ys) (range_more (s + 1) n ∙ ap (λ y. range_with_len (s + 1) n ++ y ∷ []) e)
 
 all_more : (T : Topology) (classes : List ℕ) (count class label : ℕ) → all_admit T classes (count + 1) class label ≡ (all_admit T classes count class label && (not (get_or classes count 0 == class) || admits_at T count label))
 all_more T classes count class label =

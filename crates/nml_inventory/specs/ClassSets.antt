@@ -18,14 +18,14 @@ admits_at T number label = unwrap_or (option_map (λ (q : Port). admits q.labels
 
 -- each of the first ports that is of the class admits the label
 abbrev pub all_admit : Topology → List ℕ → ℕ → ℕ → ℕ → Bool
-all_admit T classes class count label = list_all (λ n. not (slice_index classes n == class) || admits_at T n label) (range_with_len 0 count)
+all_admit T classes count class label = list_all (λ n. not (slice_index classes n == class) || admits_at T n label) (range_with_len 0 count)
 
 -- the labels are of the port's type, and those of its own that the first ports of its class admit
 pub record IsNarrowed (T : Topology) (classes : List ℕ) (count number : ℕ) (labels : Labels) : Type 0 where
   pub port : Port
   pub at : slice_get (ports T) number ≡ Some port
   pub typed : label_type labels ≡ label_type port.labels
-  pub each : (label : ℕ) → is_among labels label ≡ (is_among port.labels label && all_admit T classes number count label)
+  pub each : (label : ℕ) → is_among labels label ≡ (is_among port.labels label && all_admit T classes count number label)
 
 -- narrower labels of the same type
 pub record HasNarrowed (old own new : Labels) : Type 0 where
