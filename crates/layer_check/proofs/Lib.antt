@@ -1,0 +1,10 @@
+pub mod Once
+pub mod PortTypes
+pub mod Tests
+pub mod Fitting
+pub mod Answering
+pub mod FirstPlaces
+pub mod Differing
+pub mod OfElements
+pub mod Searching
+pub mod FirstFaults

@@ -1,0 +1,131 @@
+-- The element of a port's id.
+use Rattle.std.proofs.Common.{◌≡◌, ℕ, zero, suc, ◌<◌, ◌≤◌, List, [], ◌∷◌, Option, None, Some, map, length, refl, sym, ◌∙◌, ap, subst, arith}
+use Rattle.std.specs.Prelude.{slice_get, option_map}
+use Rattle.std.specs.Option.{option_and_then}
+use Rattle.std.specs.List.{find, filter_map, cons_option}
+use Rattle.std.specs.Str.{bytes_eq}
+use Rattle.std.proofs.lemmas.Bool.{both_ways}
+use Rattle.std.proofs.lemmas.Slice.Eq.{bytes_eq-Decides}
+use Rattle.nml_elements.specs.declared.elements.Domain.{Domain}
+use Rattle.nml_elements.specs.declared.elements.Element.{Element}
+use Rattle.nml_elements.specs.declared.elements.Element.TheVariants as element
+use Rattle.circuit_spec.specs.Network.{Name, Topology, Placed, Port, elements_of, ports, port_at, id_of}
+use Rattle.circuit_spec.specs.Faults.{Located, located, duplicate_ids, merge_faults, repeats_after, type_of}
+use Rattle.circuit_spec.proofs.Lists.{none_found}
+use Rattle.nml_inventory.specs.Numbers.{number_in, element_number}
+use Rattle.nml_inventory.proofs.Names.{find_number}
+use Rattle.nml_inventory.proofs.Stands.{ids_are}
+use Rattle.nml_inventory.proofs.Distinct.{AreApart, AreDistinct, distinct_from, same_place}
+use Rattle.nml_inventory.proofs.ClassNumbers.{among_place}
+use Rattle.nml_inventory.proofs.PortNumbers.{number_found}
+use Rattle.layer_check.specs.Comparing.{element_type}
+use Rattle.layer_check.proofs.Once.{ids_once, one_of_some}
+
+no_item : {A B : Type 0} (f : A → B) (xs : List A) → map f xs ≡ [] → xs ≡ []
+no_item f [] e = refl
+no_item f (x ∷ xs) e = cc
+
+apart_mapped : {A : Type 0} (key : A → Name) (id : Name) (xs : List A) → AreApart key id xs → AreApart (λ (x : Name). x) id (map key xs)
+apart_mapped key id [] a = tt
+apart_mapped key id (x ∷ xs) a = (a.0, apart_mapped key id xs a.1)
+
+distinct_mapped : {A : Type 0} (key : A → Name) (xs : List A) → AreDistinct key xs → AreDistinct (λ (x : Name). x) (map key xs)
+distinct_mapped key [] d = tt
+distinct_mapped key (x ∷ xs) d = (apart_mapped key (key x) xs d.0, distinct_mapped key xs d.1)
+
+mapped_apart : {A : Type 0} (key : A → Name) (id : Name) (xs : List A) → AreApart (λ (x : Name). x) id (map key xs) → AreApart key id xs
+mapped_apart key id [] a = tt
+mapped_apart key id (x ∷ xs) a = (a.0, mapped_apart key id xs a.1)
+
+mapped_distinct : {A : Type 0} (key : A → Name) (xs : List A) → AreDistinct (λ (x : Name). x) (map key xs) → AreDistinct key xs
+mapped_distinct key [] d = tt
+mapped_distinct key (x ∷ xs) d = (mapped_apart key (key x) xs d.0, mapped_distinct key xs d.1)
+
+abbrev pub placed_id : Placed → Name
+placed_id p = id_of p.element
+
+distinct_elements : (T : Topology) → duplicate_ids T ≡ [] → AreDistinct placed_id (elements_of T)
+distinct_elements T none =
+    let key : Located → Name = λ l. id_of l.element in
+    let repeats : repeats_after key [] (located T) ≡ [] = no_item _ (repeats_after key [] (located T)) none in
+    let ids = distinct_mapped key (located T) (distinct_from key [] (located T) repeats) in
+    mapped_distinct placed_id (elements_of T) (subst (λ (xs : List Name). AreDistinct (λ (x : Name). x) xs) (sym (ids_are T)) ids)
+
+abbrev port_in : Placed → Option Port
+port_in p = port_at p.domain p.element
+
+kept_option : {A B : Type 0} (h : A → Option B) (x : A) (xs : List A) (o : Option B) (n : ℕ) (y : B) → h x ≡ o → ((m : ℕ) → slice_get (filter_map h xs) m ≡ Some y → (k : ℕ) × (z : A) × (slice_get xs k ≡ Some z) × (h z ≡ Some y)) → slice_get (cons_option o (filter_map h xs)) n ≡ Some y → (k : ℕ) × (z : A) × (slice_get (x ∷ xs) k ≡ Some z) × (h z ≡ Some y)
+kept_option h x xs None n y e later at = let l = later n at in (suc l.0, l.1, l.2, l.3)
+kept_option h x xs (Some w) zero y e later at = (0, x, refl, e ∙ at)
+kept_option h x xs (Some w) (suc n) y e later at = let l = later n at in (suc l.0, l.1, l.2, l.3)
+
+-- what was kept of a list stands somewhere in it
+kept_from : {A B : Type 0} (h : A → Option B) (xs : List A) (n : ℕ) (y : B) → slice_get (filter_map h xs) n ≡ Some y → (k : ℕ) × (z : A) × (slice_get xs k ≡ Some z) × (h z ≡ Some y)
+kept_from h [] n y at = cc
+kept_from h (x ∷ xs) n y at = kept_option h x xs (h x) n y refl (λ m. kept_from h xs m y) at
+
+same_id : (d : Domain) (e : Element) (y : Port) → port_at d e ≡ Some y → y.id ≡ id_of e
+same_id d (element.Port x) y h = ap (λ (p : Port). p.id) (one_of_some (sym h))
+same_id d (element.Node x) y h = cc
+same_id d (element.Link x) y h = cc
+same_id d (element.Switching x) y h = cc
+same_id d (element.Adaptation x) y h = cc
+same_id d (element.Deadaptation x) y h = cc
+same_id d (element.Conversion x) y h = cc
+
+-- an element that is a port has its label type
+pub type_kept : (d : Domain) (e : Element) (y : Port) → port_at d e ≡ Some y → element_type e ≡ type_of y
+type_kept d (element.Port x) y h = ap type_of (one_of_some h)
+type_kept d (element.Node x) y h = cc
+type_kept d (element.Link x) y h = cc
+type_kept d (element.Switching x) y h = cc
+type_kept d (element.Adaptation x) y h = cc
+type_kept d (element.Deadaptation x) y h = cc
+type_kept d (element.Conversion x) y h = cc
+
+number_by : {A : Type 0} (key : A → Name) (xs : List A) (i : ℕ) (x : A) → AreDistinct key xs → slice_get xs i ≡ Some x → (o : Option ℕ) → number_in (map key xs) (key x) ≡ o → o ≡ Some i
+number_by key xs i x d at None e =
+    let none : find (λ y. bytes_eq (key y) (key x)) xs ≡ None = find_number key xs (key x) ∙ ap (option_and_then (λ n. slice_get xs n)) e in
+    absurd (both_ways (bytes_eq (key x) (key x)) (none_found (λ y. bytes_eq (key y) (key x)) xs x none (among_place xs i x at)) ((bytes_eq-Decides (key x) (key x)).1 refl))
+number_by key xs i x d at (Some n) e =
+    let f = number_found key xs n (key x) e in
+    ap Some (same_place key xs n i f.0 x d f.1 at f.2)
+
+-- the element of the id of the port of a number
+pub record IsKnownPort (T : Topology) (n : ℕ) (name : Name) : Type 0 where
+  pub port : Port
+  pub at : slice_get (ports T) n ≡ Some port
+  pub number : ℕ
+  pub placed : Placed
+  pub numbered : element_number T name ≡ Some number
+  pub stands : slice_get (elements_of T) number ≡ Some placed
+  pub typed : element_type placed.element ≡ type_of port
+
+known_by : (T : Topology) (n : ℕ) (name : Name) (o : Option Port) → merge_faults T ≡ [] → slice_get (ports T) n ≡ o → option_map (λ (p : Port). p.id) o ≡ Some name → IsKnownPort T n name
+known_by T n name None merged at named = cc
+known_by T n name (Some p) merged at named =
+    let k = kept_from port_in (elements_of T) n p at in
+    let id : id_of k.1.element ≡ name = sym (same_id k.1.domain k.1.element p k.3) ∙ one_of_some named in
+    let number : element_number T (id_of k.1.element) ≡ Some k.0 = number_by placed_id (elements_of T) k.0 k.1 (distinct_elements T (ids_once T merged)) k.2 (element_number T (id_of k.1.element)) refl in
+    record {
+      port = p;
+      at = at;
+      number = k.0;
+      placed = k.1;
+      numbered = ap (element_number T) (sym id) ∙ number;
+      stands = k.2;
+      typed = type_kept k.1.domain k.1.element p k.3;
+    }
+
+pub known_port : (T : Topology) (n : ℕ) (name : Name) → merge_faults T ≡ [] → option_map (λ (p : Port). p.id) (slice_get (ports T) n) ≡ Some name → IsKnownPort T n name
+known_port T n name merged named = known_by T n name (slice_get (ports T) n) merged refl named
+
+pub number_there : (T : Topology) (n : ℕ) (name text : Name) (o : Option ℕ) (k : IsKnownPort T n name) → text ≡ name → o ≡ element_number T text → o ≡ Some k.number
+number_there T n name text o k same is = is ∙ ap (element_number T) same ∙ k.numbered
+
+pub placed_there : (T : Topology) (n : ℕ) (name : Name) (number : ℕ) (o : Option Element) (k : IsKnownPort T n name) → Some number ≡ Some k.number → o ≡ option_map (λ (p : Placed). p.element) (slice_get (elements_of T) number) → o ≡ Some k.placed.element
+placed_there T n name number o k same is =
+    is ∙ ap (λ m. option_map (λ (p : Placed). p.element) (slice_get (elements_of T) m)) (one_of_some same) ∙ ap (option_map (λ (p : Placed). p.element)) k.stands
+
+pub type_there : (T : Topology) (n : ℕ) (name : Name) (e : Element) (t : Option Name) (k : IsKnownPort T n name) → Some e ≡ Some k.placed.element → t ≡ element_type e → option_map type_of (slice_get (ports T) n) ≡ Some t
+type_there T n name e t k same is = ap (option_map type_of) k.at ∙ ap Some (sym k.typed ∙ ap element_type (sym (one_of_some same)) ∙ sym is)

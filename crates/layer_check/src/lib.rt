@@ -1,0 +1,18 @@
+//! Whether the layers of a topology fit, or the first fault of them.
+#![tactic(auto)]
+
+mod checking;
+mod classes;
+mod comparing;
+mod links;
+mod making;
+mod members;
+mod numbers;
+mod related;
+mod services;
+
+#[cfg(test)]
+mod tests;
+
+pub use checking::check;
+pub use circuit_spec::LayerFault;
