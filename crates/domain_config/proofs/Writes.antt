@@ -8,7 +8,7 @@ use Rattle.domain_config.specs.declared.rules.Rule.{Rule}
 use Rattle.domain_config.specs.Lines.{Line, text_of}
 use Rattle.domain_config.specs.Rules.{At, In, domain_lines, rule_line, rule_lines}
 use Rattle.domain_config.specs.Fields.{Word, spaced}
-use Rattle.domain_config.specs.Writing.{lines_at}
+use Rattle.domain_config.specs.Writing.{lines_at, spaced_each}
 use Rattle.std.specs.Io.KnownBytes.{Appends}
 use Rattle.io_edges.specs.Stores.{AppendsFront}
 use Rattle.io_edges.proofs.Written.{Appends-join}
@@ -108,3 +108,17 @@ then_end line longer words is more = more ∙ ap (λ (l : Line). l ++ 10 ∷ [])
 -- the line of a rule behind that of its domain, if there is one
 pub lines_at_text : (at : At) (r : Rule) → text_of (lines_at at r) ≡ text_of (domain_lines at r.hop.domain) ++ (rule_line r ++ 10 ∷ [])
 lines_at_text at r = lines_join (domain_lines at r.hop.domain) (rule_line r ∷ []) ∙ ap (λ (t : List ℕ). text_of (domain_lines at r.hop.domain) ++ t) (one_line (rule_line r))
+
+pub then_all : (line longer : Line) (key : Word) (words more : List Word) → line ≡ spaced (key ∷ words) → longer ≡ line ++ spaced_each more → longer ≡ spaced (key ∷ (words ++ more))
+then_all line longer key words [] is more = more ∙ append-nil line ∙ is ∙ ap (λ (ws : List Word). spaced (key ∷ ws)) (sym (append-nil words))
+then_all line longer key words (word ∷ others) is more =
+    then_all (line ++ 32 ∷ word) longer key (words ++ word ∷ []) others (then_word line (line ++ 32 ∷ word) key words word is refl) (more ∙ sym (append_assoc line (32 ∷ word) (spaced_each others)))
+    ∙ ap (λ (ws : List Word). spaced (key ∷ ws)) (append_assoc words (word ∷ []) others)
+
+-- ---- lines that were made
+
+pub made_more : (start now next : Told) (whole line made left : List ℕ) → made ≡ line → IsUnderway start now whole (line ++ left) → Appends now next made → IsUnderway start next whole left
+made_more start now next whole line made left is u p = one_more start now next whole line left u (subst (λ (t : List ℕ). Appends now next t) is p)
+
+pub made_cut : {T E : Type 0} (r : Result T E) (start now next : Told) (whole line made left : List ℕ) → made ≡ line → IsUnderway start now whole (line ++ left) → AppendsFront now next made → OnErr r (AppendsFront start next whole)
+made_cut r start now next whole line made left is u p = on_err r (cut_short start now next whole line left u (subst (λ (t : List ℕ). AppendsFront now next t) is p))

@@ -21,11 +21,7 @@ pub fn write_line<K: Sink>(line: &Line, out: &mut K) -> Result<(), Failed>
     write_all(out, line.bytes())
 }
 
-fn write_domain<K: Sink>(
-    previous: Option<&Rule>,
-    domain: &Id,
-    out: &mut K,
-) -> Result<(), Failed>
+fn write_domain<K: Sink>(previous: Option<&Rule>, domain: &Id, out: &mut K) -> Result<(), Failed>
     ensures ok { OnOk result (Appends (K.written out.old) (K.written out.new) (text_of (domain_lines (after (option_copied previous.entry)) domain.now))) }
     ensures faults { K.faults out.old ≤ K.faults out.new }
     ensures failed { OnErr result (Rose (K.faults out.old) (K.faults out.new)) }

@@ -13,8 +13,8 @@ loop-rule-preserved g c =
     record {
       faults = search rules;
       underway = one_more _ (g.K.Sink.written c.loop-rule.out) _ _ (text_of (lines_at at rule)) _
-        (same_left _ _ _ _ _ (rule_left at c.as_slice-rule-items.result.now c.loop-rule.rule-index rule c.rule-item.is c.loop-rule-test.true) c.loop-rule.invariant.underway)
-        c.in_ok-write_rule.ensures.ok;
+          (same_left _ _ _ _ _ (rule_left at c.as_slice-rule-items.result.now c.loop-rule.rule-index rule c.rule-item.is c.loop-rule-test.true) c.loop-rule.invariant.underway)
+          c.in_ok-write_rule.ensures.ok;
     }
 
 pub returns-in_err-write_rule-clause-front : goal.returns-in_err-write_rule-clause-front
@@ -23,5 +23,5 @@ returns-in_err-write_rule-clause-front g c =
     let rule = c.rule-item.result in
     on_err c.from_residual.result
     (cut_short _ (g.K.Sink.written c.loop-rule.out) _ _ (text_of (lines_at at rule)) _
-      (same_left _ _ _ _ _ (rule_left at c.as_slice-rule-items.result.now c.loop-rule.rule-index rule c.rule-item.is c.loop-rule-test.true) c.loop-rule.invariant.underway)
-      c.in_err-write_rule.ensures.front)
+    (same_left _ _ _ _ _ (rule_left at c.as_slice-rule-items.result.now c.loop-rule.rule-index rule c.rule-item.is c.loop-rule-test.true) c.loop-rule.invariant.underway)
+    c.in_err-write_rule.ensures.front)
