@@ -15,7 +15,7 @@ use Rattle.answer_text.specs.Spelling.{heading_lines, body_lines, hop_line, hop_
 
 -- ---- hops
 
-same_length : (n : ℕ) (hs : List Hop) (flags : List (Option ℕ)) → AreHops n hs flags → length hs ≡ length flags
+pub same_length : (n : ℕ) (hs : List Hop) (flags : List (Option ℕ)) → AreHops n hs flags → length hs ≡ length flags
 same_length n [] [] h = refl
 same_length n [] (flag ∷ flags) h = absurd h
 same_length n (x ∷ hs) [] h = absurd h
