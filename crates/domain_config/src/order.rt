@@ -21,7 +21,7 @@ pub fn know_place(id: &Id, label: Tag)
     let _text = id.text();
 }
 
-fn know_rule(rule: &Rule)
+pub(crate) fn know_rule(rule: &Rule)
     ensures { IsRule rule.now }
 {
     let _number = rule.number;
