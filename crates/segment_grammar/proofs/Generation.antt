@@ -8,7 +8,7 @@ use Rattle.walk_grammar.proofs.Grammar.{Rules, rules_complete}
 use Rattle.walk_grammar.proofs.Found.{IsFound, found_begins, found_extends, found_opens, found_nests}
 use Rattle.adapt_machine.specs.declared.MachineStep.{MachineStep}
 use Rattle.adapt_machine.specs.Walks.{system_of}
-use Rattle.segment_grammar.specs.Reached.{origin_of, IsSegmentUnder, IsReached}
+use Rattle.segment_grammar.specs.Reached.{origin_of, IsReached}
 use Rattle.segment_grammar.specs.Generated.{Generated, begins, extends, opens, nests}
 
 abbrev root_of : walk.Origin StateNo → Root

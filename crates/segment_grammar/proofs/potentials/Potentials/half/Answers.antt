@@ -1,5 +1,5 @@
-use Rattle.std.proofs.Common.{arith, ap, subst, sym, ◌∙◌, ◌≡◌, ℕ, ◌<◌, ◌≤◌, ◌+◌, ◌-◌, ◌/◌, length, Some, slice_get}
-use Rattle.segment_grammar.specs.Pots.{IsRising, IsBelow}
+use Rattle.std.proofs.Common.{arith, ap, subst, ℕ, ◌+◌, ◌-◌, ◌/◌, length}
+use Rattle.segment_grammar.specs.Pots.{IsRising}
 use Rattle.segment_grammar.specs.declared.potentials.Pot.{Pot}
 use Rattle.segment_grammar.proofs.Places.{read_at}
 use Rattle.segment_grammar.proofs.Rising.{between_raised, between_lowered, accepted, refuted}
