@@ -9,31 +9,31 @@ use Rattle.ml_base.specs.declared.numbers.StepNo.{StepNo}
 use Rattle.segment_grammar.specs.Rows.{row_of}
 use Rattle.segment_grammar.specs.FrameRows.{numbered, row_found, IsNumbering}
 
-same_pair : (a b c d : ℕ) → is_eq (ordering_then (nat_cmp a c) (nat_cmp b d)) ≡ true → (a ≡ c) × (b ≡ d)
+pub same_pair : (a b c d : ℕ) → is_eq (ordering_then (nat_cmp a c) (nat_cmp b d)) ≡ true → (a ≡ c) × (b ≡ d)
 same_pair a b c d e = grind (arith, common_steps)
 
-pair_itself : (a b : ℕ) → is_eq (ordering_then (nat_cmp a a) (nat_cmp b b)) ≡ true
+pub pair_itself : (a b : ℕ) → is_eq (ordering_then (nat_cmp a a) (nat_cmp b b)) ≡ true
 pair_itself a b = grind (arith, common_steps)
 
-other_pair : (a b c d : ℕ) → ((a ≡ c) × (b ≡ d) → ⊥) → is_eq (ordering_then (nat_cmp a c) (nat_cmp b d)) ≡ false
+pub other_pair : (a b c d : ℕ) → ((a ≡ c) × (b ≡ d) → ⊥) → is_eq (ordering_then (nat_cmp a c) (nat_cmp b d)) ≡ false
 other_pair a b c d apart = grind (arith, common_steps)
 
-bool_cases : (b : Bool) → (b ≡ true) ⊎ (b ≡ false)
+pub bool_cases : (b : Bool) → (b ≡ true) ⊎ (b ≡ false)
 bool_cases true = inl refl
 bool_cases false = inr refl
 
-abbrev IsPair : ℕ → ℕ → ℕ → ℕ → Bool
+abbrev pub IsPair : ℕ → ℕ → ℕ → ℕ → Bool
 IsPair a b c d = is_eq (ordering_then (nat_cmp a c) (nat_cmp b d))
 
 -- the number of a new row is given to a pair that has none
 module _ (old new : List ((ℕ × ℕ) × ℕ)) (a b n : ℕ) (updates : (q : ℕ × ℕ) → numbered new q.0 q.1 ≡ cond (IsPair a b q.0 q.1) (Some n) (numbered old q.0 q.1)) where
-  number_here : (c d : ℕ) → IsPair a b c d ≡ true → numbered new c d ≡ Some n
+  pub number_here : (c d : ℕ) → IsPair a b c d ≡ true → numbered new c d ≡ Some n
   number_here c d e = updates (c, d) ∙ ap (λ v. cond v (Some n) (numbered old c d)) e
 
-  number_apart : (c d : ℕ) → IsPair a b c d ≡ false → numbered new c d ≡ numbered old c d
+  pub number_apart : (c d : ℕ) → IsPair a b c d ≡ false → numbered new c d ≡ numbered old c d
   number_apart c d e = updates (c, d) ∙ ap (λ v. cond v (Some n) (numbered old c d)) e
 
-  number_cases : (c d i : ℕ) → numbered new c d ≡ Some i → ((a ≡ c) × (b ≡ d) × (i ≡ n)) ⊎ (numbered old c d ≡ Some i)
+  pub number_cases : (c d i : ℕ) → numbered new c d ≡ Some i → ((a ≡ c) × (b ≡ d) × (i ≡ n)) ⊎ (numbered old c d ≡ Some i)
   number_cases c d i e = go (bool_cases (IsPair a b c d))
     where
       is_n : IsPair a b c d ≡ true → i ≡ n
@@ -75,15 +75,3 @@ module _ (old new : List ((ℕ × ℕ) × ℕ)) (a b n : ℕ) (updates : (q : �
 
   pub number_found : numbered new a b ≡ Some n
   number_found = number_here a b (pair_itself a b)
-
--- the rows have one more, which no pair has
-pub numbering_wider : (old : List ((ℕ × ℕ) × ℕ)) (count m : ℕ) → m ≡ count + 1 → IsNumbering old count → IsNumbering old m
-numbering_wider old count m more is = record { below = λ c d i e. omega (arith, is.below c d i e); once = is.once }
-
-pub kept_wider : (old : List ((ℕ × ℕ) × ℕ)) (rows rows' : List (List StepNo)) → rows' ≡ rows ++ [] ∷ [] → IsNumbering old (length rows)
-    → (c d : ℕ) → row_found rows' (numbered old c d) ≡ row_found rows (numbered old c d)
-kept_wider old rows rows' added is c d = found (numbered old c d) refl
-  where
-    found : (k : Option ℕ) → numbered old c d ≡ k → row_found rows' k ≡ row_found rows k
-    found None e = refl
-    found (Some i) e = ap (λ v. row_of v i) added ∙ get_or-append rows ([] ∷ []) [] i (is.below c d i e)

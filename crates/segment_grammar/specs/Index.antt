@@ -7,7 +7,7 @@ use Rattle.ml_base.specs.declared.numbers.StepNo.{StepNo}
 use Rattle.adapt_machine.specs.Machine.{MachineValue}
 use Rattle.adapt_machine.specs.declared.MachineStep.{MachineStep}
 use Rattle.adapt_machine.specs.declared.MachineKind.TheVariants.{Flat, Push, Pop}
-use Rattle.segment_grammar.specs.Rows.{row_of, with_number}
+use Rattle.segment_grammar.specs.Rows.{row_of, with_item}
 use Rattle.segment_grammar.specs.FrameRows.{FrameRowsValue, frame_row}
 
 -- rows of step numbers: of each kind by the state that the steps leave, pushes also by the state that they enter, pops also by their frame
@@ -22,10 +22,10 @@ abbrev pub step_no : ℕ → StepNo
 step_no k = record { 0 = k }
 
 abbrev pub with_flat : IndexValue → MachineStep → ℕ → IndexValue
-with_flat i t n = record i { flats = with_number i.flats t.from.0 (step_no n) }
+with_flat i t n = record i { flats = with_item i.flats t.from.0 (step_no n) }
 
 abbrev pub with_push : IndexValue → MachineStep → ℕ → IndexValue
-with_push i t n = record i { pushes = with_number i.pushes t.from.0 (step_no n); pushes_into = with_number i.pushes_into t.to.0 (step_no n) }
+with_push i t n = record i { pushes = with_item i.pushes t.from.0 (step_no n); pushes_into = with_item i.pushes_into t.to.0 (step_no n) }
 
 -- each state has its rows
 pub record HasRooms (i : IndexValue) : Type 0 where

@@ -12,7 +12,7 @@ use std::marker::Model;
 #[derive(Drop)]
 pub struct FrameRows {
     numbers: BTreeMap<(u64, u64), u64>,
-    rows: Rows,
+    rows: Rows<StepNo>,
 }
 
 impl Model for FrameRows {
@@ -29,7 +29,7 @@ impl Model for FrameRows {
 /// Gives the pair the number of a new row, which is empty.
 fn number_anew(
     numbers: &mut BTreeMap<(u64, u64), u64>,
-    rows: &mut Rows,
+    rows: &mut Rows<StepNo>,
     state: u64,
     frame: u64,
 ) -> Result<u64, NoMemory>
@@ -50,7 +50,7 @@ fn number_anew(
 /// The number of the pair's row, a new one where it has none.
 fn number(
     numbers: &mut BTreeMap<(u64, u64), u64>,
-    rows: &mut Rows,
+    rows: &mut Rows<StepNo>,
     state: u64,
     frame: u64,
 ) -> Result<u64, NoMemory>

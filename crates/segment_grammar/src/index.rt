@@ -14,9 +14,9 @@ use std::marker::Model;
 #[derive(Drop)]
 pub struct Index {
     count: u64,
-    from_flats: Rows,
-    from_pushes: Rows,
-    into_pushes: Rows,
+    from_flats: Rows<StepNo>,
+    from_pushes: Rows<StepNo>,
+    into_pushes: Rows<StepNo>,
     at_pops: FrameRows,
 }
 

@@ -10,3 +10,4 @@ mod rows;
 pub use index::Index;
 pub use laws::reached_pairs_are_generated;
 pub use potentials::{Pot, Potentials};
+pub use rows::Rows;
