@@ -1,0 +1,3 @@
+pub mod Weights
+pub mod Segments
+pub mod Examples
