@@ -1,0 +1,12 @@
+//! The segments of a machine under its roots: what is reached, weights of reached pairs, and the steps by where they begin and end.
+#![tactic(auto)]
+
+mod frame_rows;
+mod index;
+mod laws;
+mod potentials;
+mod rows;
+
+pub use index::Index;
+pub use laws::reached_pairs_are_generated;
+pub use potentials::{Pot, Potentials};
