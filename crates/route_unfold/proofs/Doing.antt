@@ -4,7 +4,7 @@ use Rattle.std.proofs.lemmas.List.{append-nil}
 use Rattle.ml_base.specs.declared.numbers.StepNo.{StepNo}
 use Rattle.deriv_arena.specs.declared.Deriv.{Deriv}
 use Rattle.deriv_arena.specs.declared.DerivForm.{Root, Flat, Nest}
-use Rattle.deriv_arena.specs.Derivation.{steps_of}
+use Rattle.deriv_arena.specs.Derivation.{form_of, steps_of, unfolding_of}
 use Rattle.route_unfold.specs.declared.tasks.Task.{Task}
 use Rattle.route_unfold.specs.declared.tasks.Task.TheVariants.{Walk, Step}
 use Rattle.route_unfold.specs.Tasks.{steps_of_task, steps_of_tasks, work_of_form, work_of_task, work_of, Does}
@@ -20,30 +20,30 @@ work_of-push (a ∷ ts) t = omega (arith, work_of-push ts t)
 pub does_step : (tasks : List Task) (out out' : List ℕ) (s : StepNo) → out' ≡ s.0 ∷ out → Does (Step s) tasks out tasks out'
 does_step tasks out out' s e = record { steps = ap (λ v. steps_of_tasks tasks ++ v) e; work = refl }
 
-pub does_root : (tasks : List Task) (out : List ℕ) (d : Bor Deriv) → d.now.form ≡ Root → Does (Walk d) tasks out tasks out
+pub does_root : (tasks : List Task) (out : List ℕ) (d : Bor Deriv) → form_of d.now ≡ Root → Does (Walk d) tasks out tasks out
 does_root tasks out d e = record {
   steps = ap (λ v. steps_of_tasks tasks ++ (steps_of v ++ out)) (sym e);
   work = ap (λ v. work_of tasks + work_of_form v) (sym e);
 }
 
-pub does_flat : (tasks tasks' : List Task) (out out' : List ℕ) (d prev : Bor Deriv) (s : StepNo) → d.now.form ≡ Flat prev s
+pub does_flat : (tasks tasks' : List Task) (out out' : List ℕ) (d prev : Bor Deriv) (s : StepNo) → form_of d.now ≡ Flat prev s
     → tasks' ≡ tasks ++ Walk prev ∷ [] → out' ≡ s.0 ∷ out → Does (Walk d) tasks out tasks' out'
 does_flat tasks tasks' out out' d prev s form e f = record {
   steps = rw (e, f, form, steps_of_tasks-push tasks (Walk prev)) (simp append_assoc);
   work = rw (e, form) (omega (arith, work_of-push tasks (Walk prev)));
 }
 
-pub does_nest : (tasks one two three : List Task) (out out' : List ℕ) (d prev inner : Bor Deriv) (push pop : StepNo) → d.now.form ≡ Nest prev push inner pop
+pub does_nest : (tasks one two three : List Task) (out out' : List ℕ) (d prev inner : Bor Deriv) (push pop : StepNo) → form_of d.now ≡ Nest prev push inner pop
     → one ≡ tasks ++ Walk prev ∷ [] → two ≡ one ++ Step push ∷ [] → three ≡ two ++ Walk inner ∷ [] → out' ≡ pop.0 ∷ out → Does (Walk d) tasks out three out'
 does_nest tasks one two three out out' d prev inner push pop form e f g h = record {
   steps =
-      let p : steps_of_tasks three ≡ ((steps_of_tasks tasks ++ steps_of prev.now.form) ++ push.0 ∷ []) ++ steps_of inner.now.form =
-      ap steps_of_tasks g ∙ steps_of_tasks-push two (Walk inner) ∙ ap (λ v. v ++ steps_of inner.now.form)
+      let p : steps_of_tasks three ≡ ((steps_of_tasks tasks ++ unfolding_of prev.now) ++ push.0 ∷ []) ++ unfolding_of inner.now =
+      ap steps_of_tasks g ∙ steps_of_tasks-push two (Walk inner) ∙ ap (λ v. v ++ unfolding_of inner.now)
       (ap steps_of_tasks f ∙ steps_of_tasks-push one (Step push) ∙ ap (λ v. v ++ push.0 ∷ []) (ap steps_of_tasks e ∙ steps_of_tasks-push tasks (Walk prev))) in
       rw (p, h, form) (simp append_assoc);
   work =
-      let p : work_of three ≡ work_of tasks + work_of_form prev.now.form + 1 + work_of_form inner.now.form =
-      ap work_of g ∙ work_of-push two (Walk inner) ∙ ap (λ v. v + work_of_form inner.now.form)
+      let p : work_of three ≡ work_of tasks + work_of_form (form_of prev.now) + 1 + work_of_form (form_of inner.now) =
+      ap work_of g ∙ work_of-push two (Walk inner) ∙ ap (λ v. v + work_of_form (form_of inner.now))
       (ap work_of f ∙ work_of-push one (Step push) ∙ ap (λ v. v + 1) (ap work_of e ∙ work_of-push tasks (Walk prev))) in
       rw form (omega (arith, p));
 }

@@ -2,7 +2,7 @@
 use Rattle.std.specs.Prelude.{◌≡◌, ℕ, ◌+◌, List, [], ◌∷◌, ◌++◌}
 use Rattle.deriv_arena.specs.declared.DerivForm.{DerivForm}
 use Rattle.deriv_arena.specs.declared.DerivForm.TheVariants.{Root, Flat', Nest'}
-use Rattle.deriv_arena.specs.Derivation.{unfolding_of}
+use Rattle.deriv_arena.specs.Derivation.{form_of, unfolding_of}
 use Rattle.route_unfold.specs.declared.tasks.Task.{Task}
 use Rattle.route_unfold.specs.declared.tasks.Task.TheVariants.{Walk, Step}
 
@@ -22,7 +22,7 @@ work_of_form (Flat' p first last weight prev step) = work_of_form prev + 1
 work_of_form (Nest' p first last weight prev push q first' last' weight' inner pop) = work_of_form prev + work_of_form inner + 2
 
 abbrev pub work_of_task : Task → ℕ
-work_of_task (Walk d) = work_of_form d.now.form
+work_of_task (Walk d) = work_of_form (form_of d.now)
 work_of_task (Step s) = 1
 
 abbrev pub work_of : List Task → ℕ

@@ -1,5 +1,5 @@
 ghost use Rattle.std.specs.Prelude.{◌≡◌, ◌<◌, ◌≤◌, ◌^◌, ◌↔◌, ◌∷◌, [], ℕ, length, IfOk, OnErr, IsErrOf};
-ghost use Rattle.deriv_arena.specs.Derivation.{unfolding_of, IsOver};
+ghost use Rattle.deriv_arena.specs.Derivation.{kept_weight, unfolding_of, IsOver};
 ghost use Rattle.route_unfold.specs.Faults.{IsLong};
 
 use crate::fault::UnfoldFault;
@@ -38,8 +38,8 @@ impl Unfold {
         requires over { IsOver machine.now.steps deriv.now }
         ensures steps { IfOk result (λ left. left ≡ unfolding_of deriv.now) }
         ensures within { IfOk result (λ left. length left ≤ limit) }
-        ensures past { IsErrOf result UnfoldFault.Past ↔ (deriv.now.weight ≡ Weight.Past) }
-        ensures long { (hops : ℕ) → (IsErrOf result (UnfoldFault.Long hops) ↔ IsLong deriv.now.weight limit hops) }
+        ensures past { IsErrOf result UnfoldFault.Past ↔ (kept_weight deriv.now ≡ Weight.Past) }
+        ensures long { (hops : ℕ) → (IsErrOf result (UnfoldFault.Long hops) ↔ IsLong (kept_weight deriv.now) limit hops) }
     {
         let Weight::Known { hops, .. } = deriv.weight() else {
             return Err(UnfoldFault::Past);
