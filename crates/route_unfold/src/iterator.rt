@@ -1,4 +1,4 @@
-ghost use Rattle.std.specs.Prelude.{◌≡◌, ◌<◌, ◌≤◌, ◌^◌, ◌↔◌, ◌∷◌, [], ℕ, length, IfOk, OnErr, IsErrOf};
+ghost use Rattle.std.specs.Prelude.{◌≡◌, ◌<◌, ◌≤◌, ◌^◌, ◌↔◌, ◌∷◌, [], ℕ, length, IfOk, IfSome, IsErrOf, Some};
 ghost use Rattle.deriv_arena.specs.Derivation.{kept_weight, unfolding_of, IsOver};
 ghost use Rattle.route_unfold.specs.Faults.{IsLong};
 
@@ -76,7 +76,8 @@ impl Unfold {
 impl Iterator for Unfold {
     type Item = StepNo;
 
-    ghost use Rattle.std.specs.Iterator.{YieldsFirstBy, item_count};
+    ghost use Rattle.std.specs.Iterator.{YieldsFirstBy, item_count, at_most, UpTo};
+    ghost use Rattle.std.specs.Iterator.SizeHint.{IsWithinCount};
 
     ghost next_gives = { YieldsFirstBy (λ step. step.0) (λ left. left) };
 
@@ -86,7 +87,11 @@ impl Iterator for Unfold {
         self.left.pop()
     }
 
-    fn size_hint(&self) -> (usize, Option<usize>) {
+    fn size_hint(&self) -> (usize, Option<usize>)
+        ensures lower { IsWithinCount result.0 (at_most (length self.now)) }
+        ensures upper { IfSome result.1 (UpTo (at_most (length self.now))) }
+        ensures value { result ≡ (length self.now, Some (length self.now)) }
+    {
         let len = self.len();
         (len, Some(len))
     }
