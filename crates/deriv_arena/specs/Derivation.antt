@@ -11,6 +11,19 @@ use Rattle.deriv_arena.specs.declared.Deriv.{Deriv}
 use Rattle.deriv_arena.specs.declared.DerivForm.{DerivForm}
 use Rattle.deriv_arena.specs.declared.DerivForm.TheVariants.{Root, Flat', Nest'}
 
+-- the state that a derivation begins at, the one that it ends at, the weight that is kept of it, and how it is made
+abbrev pub first_of : Deriv → StateNo
+first_of d = d.first
+
+abbrev pub last_of : Deriv → StateNo
+last_of d = d.last
+
+abbrev pub kept_weight : Deriv → Weight
+kept_weight d = d.weight
+
+abbrev pub form_of : Deriv → DerivForm
+form_of d = d.form
+
 -- the steps that a form stands for, in order; a part comes with its pointer, ends and weight
 abbrev pub steps_of : DerivForm → List ℕ
 steps_of Root = []
@@ -18,7 +31,7 @@ steps_of (Flat' p first last weight prev step) = steps_of prev ++ step.0 ∷ []
 steps_of (Nest' p first last weight prev push q first' last' weight' inner pop) = steps_of prev ++ push.0 ∷ (steps_of inner ++ pop.0 ∷ [])
 
 abbrev pub unfolding_of : Deriv → List ℕ
-unfolding_of d = steps_of d.form
+unfolding_of d = steps_of (form_of d)
 
 -- the weight of a step: its cost and one hop
 abbrev pub step_weight : List MachineStep → ℕ → Weight
@@ -26,27 +39,27 @@ step_weight steps k = cap (record { cost = (system_of steps).cost k; hops = 1 })
 
 -- `d` is at the state, with no weight
 pub record Rests (d : Deriv) (state : StateNo) : Type 0 where
-  pub first : d.first ≡ state
-  pub last : d.last ≡ state
-  pub weight : d.weight ≡ cap (record { cost = 0; hops = 0 })
+  pub first : first_of d ≡ state
+  pub last : last_of d ≡ state
+  pub weight : kept_weight d ≡ cap (record { cost = 0; hops = 0 })
 
 -- `d` has the ends and the weight of `prev` with flat step `k` after it
 pub record Extends (steps : List MachineStep) (prev : Deriv) (k : ℕ) (d : Deriv) : Type 0 where
-  pub keeps : (system_of steps).Keeps prev.last k d.last
-  pub first : d.first ≡ prev.first
-  pub weight : d.weight ≡ capped_total prev.weight (step_weight steps k)
+  pub keeps : (system_of steps).Keeps (last_of prev) k (last_of d)
+  pub first : first_of d ≡ first_of prev
+  pub weight : kept_weight d ≡ capped_total (kept_weight prev) (step_weight steps k)
 
 -- the push leaves the one part and enters the other, which the pop of the same frame leaves for `z`
 pub record Encloses (steps : List MachineStep) (prev : Deriv) (push : ℕ) (inner : Deriv) (pop : ℕ) (z : StateNo) : Type 0 where
   pub frame : FrameNo
-  pub pushes : (system_of steps).Pushes prev.last push frame inner.first
-  pub pops : (system_of steps).Pops inner.last pop frame z
+  pub pushes : (system_of steps).Pushes (last_of prev) push frame (first_of inner)
+  pub pops : (system_of steps).Pops (last_of inner) pop frame z
 
 -- `d` has the ends and the weight of `prev` with a push, `inner` and a pop after it
 pub record Nests (steps : List MachineStep) (prev : Deriv) (push : ℕ) (inner : Deriv) (pop : ℕ) (d : Deriv) : Type 0 where
-  pub encloses : Encloses steps prev push inner pop d.last
-  pub first : d.first ≡ prev.first
-  pub weight : d.weight ≡ capped_total (capped_total (capped_total prev.weight (step_weight steps push)) inner.weight) (step_weight steps pop)
+  pub encloses : Encloses steps prev push inner pop (last_of d)
+  pub first : first_of d ≡ first_of prev
+  pub weight : kept_weight d ≡ capped_total (capped_total (capped_total (kept_weight prev) (step_weight steps push)) (kept_weight inner)) (step_weight steps pop)
 
 abbrev deriv_of : StateNo → StateNo → Weight → DerivForm → Deriv
 deriv_of first last weight form = record { first = first; last = last; weight = weight; form = form }
@@ -64,8 +77,8 @@ IsFormOver steps first last weight (Nest' p f l w prev push q f' l' w' inner pop
     × Nests steps (deriv_of f l w prev) push.0 (deriv_of f' l' w' inner) pop.0 (deriv_of first last weight (Nest' p f l w prev push q f' l' w' inner pop))
 
 abbrev pub IsOver : List MachineStep → Deriv → Type 0
-IsOver steps d = IsFormOver steps d.first d.last d.weight d.form
+IsOver steps d = IsFormOver steps (first_of d) (last_of d) (kept_weight d) (form_of d)
 
 -- the unfolding runs between the ends, from the empty stack to the empty stack
 abbrev pub IsSegment : List MachineStep → Deriv → Type 0
-IsSegment steps d = Run (system_of steps) d.first [] (unfolding_of d) d.last []
+IsSegment steps d = Run (system_of steps) (first_of d) [] (unfolding_of d) (last_of d) []

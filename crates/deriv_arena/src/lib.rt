@@ -5,7 +5,7 @@
 ghost use Rattle.std.specs.Prelude.{◌≡◌, ℕ, List, IfOk};
 ghost use Rattle.adapt_machine.specs.declared.MachineStep.{MachineStep};
 ghost use Rattle.adapt_machine.specs.Walks.{system_of, weight_of};
-ghost use Rattle.deriv_arena.specs.Derivation.{unfolding_of, IsOver, Rests, Extends, Encloses, Nests};
+ghost use Rattle.deriv_arena.specs.Derivation.{first_of, last_of, kept_weight, form_of, unfolding_of, IsOver, Rests, Extends, Encloses, Nests};
 
 mod laws;
 #[cfg(test)]
@@ -61,7 +61,7 @@ pub enum DerivForm<'a> {
 impl<'a> Deriv<'a> {
     /// The capped weight of the unfolding, in each machine that the derivation is over.
     pub fn weight(&self) -> Weight
-        ensures is { result ≡ self.now.weight }
+        ensures is { result ≡ kept_weight self.now }
         ensures unfolded { (steps : List MachineStep) → IsOver steps self.now → result ≡ weight_of steps (unfolding_of self.now) }
     {
         self.weight
@@ -69,21 +69,21 @@ impl<'a> Deriv<'a> {
 
     /// The state that the derivation begins at.
     pub fn first(&self) -> StateNo
-        ensures { result ≡ self.now.first }
+        ensures { result ≡ first_of self.now }
     {
         self.first
     }
 
     /// The state that the derivation ends at.
     pub fn last(&self) -> StateNo
-        ensures { result ≡ self.now.last }
+        ensures { result ≡ last_of self.now }
     {
         self.last
     }
 
     /// How the derivation is made, with its parts.
     pub fn form(&self) -> DerivForm<'a>
-        ensures { result ≡ self.now.form }
+        ensures { result ≡ form_of self.now }
     {
         self.form
     }
@@ -101,7 +101,7 @@ fn place<'a>(arena: &'a Bump, deriv: Deriv<'a>) -> Result<&'a Deriv<'a>, NoMemor
 
 /// The derivation of no steps, at a state.
 pub fn root<'a>(arena: &'a Bump, state: StateNo) -> Result<&'a Deriv<'a>, NoMemory>
-    ensures form { IfOk result (λ d. d.now.form ≡ DerivForm.Root) }
+    ensures form { IfOk result (λ d. form_of d.now ≡ DerivForm.Root) }
     ensures rests { IfOk result (λ d. Rests d.now state) }
     ensures over { IfOk result (λ d. (steps : List MachineStep) → IsOver steps d.now) }
 {
@@ -124,8 +124,8 @@ pub fn flat<'a>(
     step: StepNo,
 ) -> Result<&'a Deriv<'a>, NoMemory>
     requires over { IsOver machine.now.steps prev.now }
-    requires keeps { (y : StateNo) × (system_of machine.now.steps).Keeps prev.now.last step.0 y }
-    ensures form { IfOk result (λ d. d.now.form ≡ DerivForm.Flat prev.entry step) }
+    requires keeps { (y : StateNo) × (system_of machine.now.steps).Keeps (last_of prev.now) step.0 y }
+    ensures form { IfOk result (λ d. form_of d.now ≡ DerivForm.Flat prev.entry step) }
     ensures extends { IfOk result (λ d. Extends machine.now.steps prev.now step.0 d.now) }
     ensures over { IfOk result (λ d. IsOver machine.now.steps d.now) }
 {
@@ -154,7 +154,7 @@ pub fn nest<'a>(
     requires over { IsOver machine.now.steps prev.now }
     requires inner_over { IsOver machine.now.steps inner.now }
     requires encloses { (z : StateNo) × Encloses machine.now.steps prev.now push.0 inner.now pop.0 z }
-    ensures form { IfOk result (λ d. d.now.form ≡ DerivForm.Nest prev.entry push inner.entry pop) }
+    ensures form { IfOk result (λ d. form_of d.now ≡ DerivForm.Nest prev.entry push inner.entry pop) }
     ensures nests { IfOk result (λ d. Nests machine.now.steps prev.now push.0 inner.now pop.0 d.now) }
     ensures over { IfOk result (λ d. IsOver machine.now.steps d.now) }
 {
