@@ -1,0 +1,5 @@
+mod Weights
+mod Bags
+mod Searching
+mod Filing
+mod Backwards
