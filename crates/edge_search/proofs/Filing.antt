@@ -4,6 +4,7 @@ use Rattle.std.specs.Prelude.{IfNone}
 use Rattle.std.proofs.Math.ListN.{set, get_or, length-set, replicate}
 use Rattle.std.proofs.lemmas.Bool.{cases_eq}
 use Rattle.std.proofs.lemmas.List.{get_or-set_same, get_or-set_other, map-set, get_or-map, map-append, replicate-append-replicate, length-map}
+use Rattle.std.proofs.lemmas.Option.{slice_get-get_or}
 use Rattle.std.proofs.lemmas.List.Elements.{Contains-push, Contains-push_cases, Contains-append_left}
 use Rattle.ml_base.specs.declared.weight.Weight.{Weight}
 use Rattle.ml_base.specs.Weight.{IsCappedAtMost}
@@ -145,7 +146,10 @@ passed_at_most list next place visit l at p =
     same_at xs i x y e f = cc
 
 -- a node with no visit in the index has none
-pub none_at : (list : List Candidate) (lightest : List (Option ℕ)) (node : ℕ) (r : Option ℕ) → slice_get lightest node ≡ Some r → IsIndexed list lightest
+pub none_at : (list : List Candidate) (lightest : List (Option ℕ)) (node : ℕ) (r : Option ℕ) → node < length lightest → r ≡ get_or lightest node r → IsIndexed list lightest
     → IfNone r ((visit : Candidate) → Contains list visit → visit.node ≢ node)
-none_at list lightest node None at is = is.none node at
-none_at list lightest node (Some place) at is = tt
+none_at list lightest node r below read is = go r (slice_get-get_or lightest node r below ∙ ap Some (sym read))
+  where
+    go : (r : Option ℕ) → slice_get lightest node ≡ Some r → IfNone r ((visit : Candidate) → Contains list visit → visit.node ≢ node)
+    go None at = is.none node at
+    go (Some place) at = tt

@@ -269,18 +269,27 @@ module _ (G : List (List Edge)) (start : ℕ) (visits : List Candidate) (is : Is
         (v.visit, v.listed, v.same_node, subst (λ n. IsCappedAtMost v.visit.weight (cap (full n (length trail)))) c (subst (λ n. IsCappedAtMost v.visit.weight (cap (full (0 + sum_by (λ e. e.cost) trail) n))) h v.at_most));
   }
 
--- the way back from a lightest visit of the target is a cheapest trail
-pub is_cheapest : (G : List (List Edge)) (start target : ℕ) (visits : List Candidate) → IsExplored G start visits → (place : ℕ) → (l : IsLightest visits target place)
-    → (trail : List Edge) → Leads visits l.visit.came trail → IsCheapest G start target l.visit.weight trail
-is_cheapest G start target visits x place l trail leads =
-    let f : IsFound G start visits l.visit = x.found l.visit (contains_at visits place l.visit l.at) in
-    let same : f.trail ≡ trail = leads_once visits l.visit.came f.trail trail f.leads leads in
+-- a lightest visit of the target was come to
+pub lightest_leads : (G : List (List Edge)) (start target : ℕ) (visits : List Candidate) → IsExplored G start visits → (place : ℕ) (last : Candidate) → slice_get visits place ≡ Some last
+    → (trail : List Edge) × Leads visits last.came trail
+lightest_leads G start target visits x place last at =
+    let f : IsFound G start visits last = x.found last (contains_at visits place last at) in
+    (f.trail, f.leads)
+
+-- the way back from it is a cheapest trail
+pub is_cheapest : (G : List (List Edge)) (start target : ℕ) (visits : List Candidate) → IsExplored G start visits → (place : ℕ) (last : Candidate) → IsLightest visits target place
+    → slice_get visits place ≡ Some last → (trail : List Edge) → Leads visits last.came trail → IsCheapest G start target last.weight trail
+is_cheapest G start target visits x place last l at trail leads =
+    let f : IsFound G start visits last = x.found last (contains_at visits place last at) in
+    let is : l.visit ≡ last = same_visit visits place l.visit last l.at at in
+    let node : last.node ≡ target = sym (ap (λ v. v.node) is) ∙ l.same_node in
+    let same : f.trail ≡ trail = leads_once visits last.came f.trail trail f.leads leads in
     record {
-      leads = subst (λ t. Trail G start t target) same (subst (λ n. Trail G start f.trail n) l.same_node f.goes);
-      weight = subst (λ t. cap (trail_weight t) ≡ l.visit.weight) same f.weight;
+      leads = subst (λ t. Trail G start t target) same (subst (λ n. Trail G start f.trail n) node f.goes);
+      weight = subst (λ t. cap (trail_weight t) ≡ last.weight) same f.weight;
       least = λ other t.
           let c : (visit : Candidate) × Contains visits visit × (visit.node ≡ target) × IsCappedAtMost visit.weight (cap (trail_weight other)) = x.covers target other t in
-          at_most-trans l.visit.weight c.0.weight (cap (trail_weight other)) (l.least c.0 c.1 c.2) c.3;
+          at_most-trans last.weight c.0.weight (cap (trail_weight other)) (subst (λ v. IsCappedAtMost v.weight c.0.weight) is (l.least c.0 c.1 c.2)) c.3;
     }
 
 pub no_trail : (G : List (List Edge)) (start target : ℕ) (visits : List Candidate) → IsExplored G start visits → ((visit : Candidate) → Contains visits visit → visit.node ≡ target → ⊥)

@@ -1,9 +1,21 @@
+use Rattle.std.proofs.Common.{◌≡◌, ◌∙◌, [], ◌∷◌, ap, subst, sym, IsPermutation}
+use Rattle.ml_base.specs.Weight.{cap}
+use Rattle.edge_search.specs.declared.queue.Came.TheVariants.{Start}
+use Rattle.edge_search.specs.declared.queue.Candidate.{Candidate}
 use Rattle.edge_search.proofs.Searching.{IsSearching, is_explored, next_within, searching_begun, searching_turn}
-use Rattle.std.proofs.Common.{subst}
 use Rattle.edge_search.proofs.exploring.explore.Goals as goal
 
 pub loop-init : goal.loop-init
-loop-init c = ?
+loop-init c =
+    let none : c.in_ok-visits.visits.list ≡ [] = ap (λ v. v.list) c.in_ok-visits.ensures in
+    let nodes : c.in_ok-visits.visits.nodes ≡ c.nodes.result = ap (λ v. v.nodes) c.in_ok-visits.ensures in
+    let first : Candidate = record { weight = c.zero.result; node = c.args.start; came = Start } in
+    let is : first ≡ record { weight = cap (record { cost = 0; hops = 0 }); node = c.args.start; came = Start } = ap (λ w. record { weight = w; node = c.args.start; came = Start }) c.zero.ensures in
+    let moved : IsPermutation (first ∷ []) c.push.new.self = subst (λ q. IsPermutation (first ∷ q) c.push.new.self) c.new-queue.ensures c.in_ok-push.ensures in
+    record {
+      searching = subst (λ v. IsSearching c.args.edges.now c.args.start v c.push.new.self) (sym none) (searching_begun c.args.edges.now c.args.start first c.push.new.self is moved);
+      nodes = nodes ∙ c.nodes.ensures;
+    }
 
 pub turn-requires-clause-node : goal.turn-requires-clause-node
 turn-requires-clause-node c = next_within c.args.edges.now c.args.start c.loop.visits.list c.loop.queue c.pop.new.self c.in-Some.next c.requires.within c.requires.start c.in-Some.ensures.some c.loop.invariant.searching
