@@ -10,11 +10,6 @@ use Rattle.edge_search.specs.Visits.{AreOrdered, Leads}
 use Rattle.edge_search.proofs.Bags.{slice_get-below}
 use Rattle.edge_search.proofs.Searching.{before_place, leads_over, leads_start}
 
--- the places at which visits may still stand on the way
-abbrev pub places_left : Came → ℕ
-places_left Start = 0
-places_left (Over place edge) = place + 1
-
 -- the edges that were passed on the way back lead on from here to the last
 pub record IsBack (visits : List Candidate) (last came : Came) (edges : List Edge) : Type 0 where
   pub trail : List Edge
@@ -38,13 +33,6 @@ module _ (visits : List Candidate) (last came : Came) (edges : List Edge) (place
       let e : back.trail ++ reverse edges ≡ l.1 ++ reverse more =
       ap (λ t. t ++ reverse edges) l.4 ∙ append_assoc l.1 (edge ∷ []) (reverse edges) ∙ ap (λ r. l.1 ++ r) (sym (ap reverse pushed ∙ reverse-append edges (edge ∷ []))) in
       record { trail = l.1; leads = subst (λ v. Leads visits v.came l.1) same l.3; whole = subst (λ t. Leads visits last t) e back.whole }
-
-pub places_fall : (visits : List Candidate) (place : ℕ) (visit : Candidate) → AreOrdered visits → slice_get visits place ≡ Some visit → places_left visit.came < place + 1
-places_fall visits place visit ordered at = go visit.came refl
-  where
-    go : (came : Came) → visit.came ≡ came → places_left came < place + 1
-    go Start e = omega arith
-    go (Over before edge) e = omega (arith, ordered place visit at before edge e)
 
 pub back_ends : (visits : List Candidate) (last came : Came) (edges : List Edge) → came ≡ Start → IsBack visits last came edges → Leads visits last (reverse edges)
 back_ends visits last came edges is back = subst (λ t. Leads visits last (t ++ reverse edges)) (leads_start visits came back.trail back.leads is) back.whole

@@ -1,5 +1,5 @@
 -- What the search keeps, and what it comes to.
-use Rattle.std.proofs.Common.{◌≡◌, ℕ, ◌+◌, ◌<◌, ◌⊎◌, List, [], ◌∷◌, ◌++◌, length, refl, sym, ◌∙◌, ap, subst, inl, inr, arith, Contains, Some, slice_get, sum_by}
+use Rattle.std.proofs.Common.{◌≡◌, ℕ, ◌+◌, ◌<◌, ◌≤◌, ◌^◌, ◌⊎◌, List, [], ◌∷◌, ◌++◌, length, refl, sym, ◌∙◌, ap, subst, inl, inr, arith, Contains, Some, slice_get, sum_by}
 use Rattle.std.specs.List.Sorted.{IsPermutation}
 use Rattle.std.proofs.lemmas.List.Sums.{sum_by-cons}
 use Rattle.std.proofs.lemmas.List.{length-append}
@@ -89,6 +89,27 @@ leads_once visits _ _ other (over place visit edge trail at before) o =
     let l : (visit : Candidate) × (before : List Edge) × (slice_get visits place ≡ Some visit) × Leads visits visit.came before × (other ≡ before ++ edge ∷ []) = leads_over visits (Over place edge) other o place edge refl in
     let same : l.0 ≡ visit = same_visit visits place l.0 visit l.2 at in
     ap (λ t. t ++ edge ∷ []) (leads_once visits visit.came trail l.1 before (subst (λ v. Leads visits v.came l.1) same l.3)) ∙ sym l.4
+
+-- a trail has no more edges than there are visits up to where it was come from
+abbrev pub places_left : Came → ℕ
+places_left Start = 0
+places_left (Over place edge) = place + 1
+
+pub places_fall : (visits : List Candidate) (place : ℕ) (visit : Candidate) → AreOrdered visits → slice_get visits place ≡ Some visit → places_left visit.came < place + 1
+places_fall visits place visit ordered at = go visit.came refl
+  where
+    go : (came : Came) → visit.came ≡ came → places_left came < place + 1
+    go Start e = omega arith
+    go (Over before edge) e = omega (arith, ordered place visit at before edge e)
+
+leads_few : (visits : List Candidate) → AreOrdered visits → (came : Came) (trail : List Edge) → Leads visits came trail → length trail ≤ places_left came
+leads_few visits ordered _ _ at_start = omega arith
+leads_few visits ordered _ _ (over place visit edge trail at before) =
+    omega (arith, leads_few visits ordered visit.came trail before, places_fall visits place visit ordered at, length-append trail (edge ∷ []))
+
+places_within : (visits : List Candidate) (came : Came) (trail : List Edge) → Leads visits came trail → places_left came ≤ length visits
+places_within visits _ _ at_start = omega arith
+places_within visits _ _ (over place visit edge trail at before) = omega (arith, slice_get-below visits place visit at)
 
 -- The search
 
@@ -216,6 +237,11 @@ searching_turn G start visits queue rest next visits' queue' popped (inl t) is =
 searching_turn G start visits queue rest next visits' queue' popped (inr t) is =
     subst (λ v. IsSearching G start v queue') (sym t.0) (searching_visited G start visits queue rest next queue' popped is t.1)
 
+-- one turn visits one node more at most
+pub turn_long : (G : List (List Edge)) (visits rest : List Candidate) (next : Candidate) (visits' queue' : List Candidate) → Turns G visits rest next visits' queue' → length visits' ≤ length visits + 1
+turn_long G visits rest next visits' queue' (inl t) = let same = ap length t.1 in omega arith
+turn_long G visits rest next visits' queue' (inr t) = let same = ap length t.0 in omega (arith, length-append visits (next ∷ []))
+
 -- the next candidate's node is one of the graph
 pub next_within : (G : List (List Edge)) (start : ℕ) (visits queue rest : List Candidate) (next : Candidate) → AreWithin G → start < length G
     → IsPermutation queue (next ∷ rest) → IsSearching G start visits queue → next.node < length G
@@ -277,9 +303,9 @@ lightest_leads G start target visits x place last at =
     (f.trail, f.leads)
 
 -- the way back from it is a cheapest trail
-pub is_cheapest : (G : List (List Edge)) (start target : ℕ) (visits : List Candidate) → IsExplored G start visits → (place : ℕ) (last : Candidate) → IsLightest visits target place
+pub is_cheapest : (G : List (List Edge)) (start target : ℕ) (visits : List Candidate) → IsExplored G start visits → length visits ≤ 2 ^ 40 → (place : ℕ) (last : Candidate) → IsLightest visits target place
     → slice_get visits place ≡ Some last → (trail : List Edge) → Leads visits last.came trail → IsCheapest G start target last.weight trail
-is_cheapest G start target visits x place last l at trail leads =
+is_cheapest G start target visits x few place last l at trail leads =
     let f : IsFound G start visits last = x.found last (contains_at visits place last at) in
     let is : l.visit ≡ last = same_visit visits place l.visit last l.at at in
     let node : last.node ≡ target = sym (ap (λ v. v.node) is) ∙ l.same_node in
@@ -287,6 +313,7 @@ is_cheapest G start target visits x place last l at trail leads =
     record {
       leads = subst (λ t. Trail G start t target) same (subst (λ n. Trail G start f.trail n) node f.goes);
       weight = subst (λ t. cap (trail_weight t) ≡ last.weight) same f.weight;
+      counted = omega (arith, leads_few visits x.ordered last.came trail leads, places_within visits last.came trail leads);
       least = λ other t.
           let c : (visit : Candidate) × Contains visits visit × (visit.node ≡ target) × IsCappedAtMost visit.weight (cap (trail_weight other)) = x.covers target other t in
           at_most-trans last.weight c.0.weight (cap (trail_weight other)) (subst (λ v. IsCappedAtMost v.weight c.0.weight) is (l.least c.0 c.1 c.2)) c.3;

@@ -1,5 +1,5 @@
 -- Graphs as the edges from each node, trails over them, and what a trail weighs.
-use Rattle.std.specs.Prelude.{◌≡◌, ℕ, ◌<◌, ◌⊎◌, List, [], ◌∷◌, length, slice_index_or, sum_by}
+use Rattle.std.specs.Prelude.{◌≡◌, ℕ, ◌<◌, ◌≤◌, ◌^◌, ◌⊎◌, List, [], ◌∷◌, length, slice_index_or, sum_by}
 use Rattle.std.specs.List.{Contains}
 use Rattle.ml_base.specs.declared.weight.Weight.{Weight}
 use Rattle.ml_base.specs.Weight.{FullWeight, IsCappedAtMost, cap}
@@ -31,8 +31,9 @@ Trail G x (edge ∷ rest) y = IsEdge G x edge × Trail G edge.to rest y
 abbrev pub trail_weight : List Edge → FullWeight
 trail_weight trail = record { cost = sum_by (λ edge. edge.cost) trail; hops = length trail }
 
--- a trail of this capped weight, and no trail weighs less
+-- a trail of this capped weight, of no more hops than a weight counts, and no trail weighs less
 pub record IsCheapest (G : List (List Edge)) (x y : ℕ) (w : Weight) (trail : List Edge) : Type 0 where
   pub leads : Trail G x trail y
   pub weight : cap (trail_weight trail) ≡ w
+  pub counted : length trail ≤ 2 ^ 40
   pub least : (other : List Edge) → Trail G x other y → IsCappedAtMost w (cap (trail_weight other))

@@ -1,4 +1,4 @@
-ghost use Rattle.std.specs.Prelude.{◌≡◌, ◌<◌, ◌∷◌, [], IfOk, length};
+ghost use Rattle.std.specs.Prelude.{◌≡◌, ◌<◌, ◌≤◌, ◌^◌, ◌∷◌, [], IfOk, length};
 ghost use Rattle.std.specs.List.Sorted.{IsPermutation};
 ghost use Rattle.edge_search.specs.Graph.{AreWithin, edges_from};
 ghost use Rattle.edge_search.specs.Exploring.{Adds, AnyOf, IsAfter, IsExplored, Turns, after};
@@ -8,6 +8,9 @@ use crate::queue::{Came, Candidate, Queue};
 use crate::visits::Visits;
 use ml_base::{NoMemory, Weight};
 use std::alloc::Global;
+
+/// The turns past which the search gives up: a visit each would fill any memory, and a weight counts no more hops than this.
+const MOST_TURNS: u64 = 1_099_511_627_776;
 
 /// Offers what the edge makes of the visit at the place.
 fn offer(
@@ -68,6 +71,7 @@ pub fn explore(alloc: Global, edges: &Edges, start: u32) -> Result<Visits, NoMem
     requires start { start < length edges.now }
     requires within { AreWithin edges.now }
     ensures nodes { IfOk result (λ visits. visits.nodes ≡ length edges.now) }
+    ensures few { IfOk result (λ visits. length visits.list ≤ 2 ^ 40) }
     ensures explored { IfOk result (λ visits. IsExplored edges.now start visits.list) }
 {
     let mut visits = Visits::new(alloc, edges.nodes())?;
@@ -77,7 +81,7 @@ pub fn explore(alloc: Global, edges: &Edges, start: u32) -> Result<Visits, NoMem
         node: start,
         came: Came::Start,
     })?;
-    for _ in 0..u64::MAX {
+    for _ in 0..MOST_TURNS {
         let Some(next) = queue.pop() else {
             return Ok(visits);
         };

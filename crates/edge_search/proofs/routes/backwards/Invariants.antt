@@ -1,5 +1,6 @@
 use Rattle.std.proofs.Common.{ℕ}
-use Rattle.edge_search.proofs.Backwards.{IsBack, places_left}
+use Rattle.edge_search.proofs.Backwards.{IsBack}
+use Rattle.edge_search.proofs.Searching.{places_left}
 use Rattle.edge_search.proofs.routes.backwards.Given as goal
 
 abbrev pub invariant-loop-came : goal.invariant-loop-came

@@ -14,5 +14,5 @@ pub backwards-requires-clause-leads : goal.backwards-requires-clause-leads
 backwards-requires-clause-leads c = lightest_leads c.args.edges.now c.args.start c.args.target c.in_ok-visits.visits.list c.in_ok-visits.ensures.explored c.in-Some.place c.at-last.result c.at-last.ensures
 
 pub returns : goal.returns
-returns c = is_cheapest c.args.edges.now c.args.start c.args.target c.in_ok-visits.visits.list c.in_ok-visits.ensures.explored c.in-Some.place c.at-last.result c.in-Some.ensures.some c.at-last.ensures
+returns c = is_cheapest c.args.edges.now c.args.start c.args.target c.in_ok-visits.visits.list c.in_ok-visits.ensures.explored c.in_ok-visits.ensures.few c.in-Some.place c.at-last.result c.in-Some.ensures.some c.at-last.ensures
     c.reverse.new.self.items (subst (λ t. Leads c.in_ok-visits.visits.list c.at-last.result.came t) (sym c.reverse.ensures.items) c.in_ok-found.ensures)
