@@ -1,5 +1,5 @@
 mod Weights
-mod Bags
+pub mod Bags
 mod Searching
 mod Filing
 mod Backwards
