@@ -1,13 +1,12 @@
 -- The way back from a visit.
-use Rattle.std.proofs.Common.{◌≡◌, ℕ, ◌+◌, ◌<◌, length, List, [], ◌∷◌, ◌++◌, refl, sym, ◌∙◌, ap, subst, arith, Some, slice_get}
+use Rattle.std.proofs.Common.{◌≡◌, ℕ, ◌<◌, length, List, [], ◌∷◌, ◌++◌, sym, ◌∙◌, ap, subst, Some, slice_get}
 use Rattle.std.specs.Prelude.{reverse}
 use Rattle.std.proofs.lemmas.List.{append-nil, append_assoc, reverse-append}
 use Rattle.edge_search.specs.declared.edges.Edge.{Edge}
 use Rattle.edge_search.specs.declared.queue.Candidate.{Candidate}
 use Rattle.edge_search.specs.declared.queue.Came.{Came}
 use Rattle.edge_search.specs.declared.queue.Came.TheVariants.{Start, Over}
-use Rattle.edge_search.specs.Visits.{AreOrdered, Leads}
-use Rattle.edge_search.proofs.Bags.{slice_get-below}
+use Rattle.edge_search.specs.Visits.{Leads}
 use Rattle.edge_search.proofs.Searching.{before_place, leads_over, leads_start}
 
 -- the edges that were passed on the way back lead on from here to the last

@@ -6,11 +6,10 @@ use Rattle.std.proofs.lemmas.Bool.{cases_eq}
 use Rattle.std.proofs.lemmas.List.{get_or-set_same, get_or-set_other, map-set, get_or-map, map-append, replicate-append-replicate, length-map}
 use Rattle.std.proofs.lemmas.Option.{slice_get-get_or}
 use Rattle.std.proofs.lemmas.List.Elements.{Contains-push, Contains-push_cases, Contains-append_left}
-use Rattle.ml_base.specs.declared.weight.Weight.{Weight}
 use Rattle.ml_base.specs.Weight.{IsCappedAtMost}
 use Rattle.edge_search.specs.declared.edges.Edge.{Edge}
 use Rattle.edge_search.specs.declared.queue.Candidate.{Candidate}
-use Rattle.edge_search.specs.Graph.{AddsEdge, IsEdge, edges_from}
+use Rattle.edge_search.specs.Graph.{AddsEdge, AreWithin, IsEdge}
 use Rattle.edge_search.specs.Visits.{IsIndexed, IsLightest, IsPassed}
 use Rattle.edge_search.proofs.Bags.{at_end, at_pushed, contains_at}
 use Rattle.edge_search.proofs.Weights.{at_most-either, at_most-same, at_most-trans}
@@ -153,3 +152,19 @@ none_at list lightest node r below read is = go r (slice_get-get_or lightest nod
     go : (r : Option ℕ) → slice_get lightest node ≡ Some r → IfNone r ((visit : Candidate) → Contains list visit → visit.node ≢ node)
     go None at = is.none node at
     go (Some place) at = tt
+
+-- Edges that lead to nodes
+
+empty_rows : (n node : ℕ) → length (get_or (replicate {A = List Edge} n []) node []) ≡ 0
+empty_rows zero node = refl
+empty_rows (suc n) zero = refl
+empty_rows (suc n) (suc node) = empty_rows n node
+
+pub within_none : (n : ℕ) (G : List (List Edge)) → G ≡ replicate n [] → AreWithin G
+within_none n G is = subst (λ g. AreWithin g) (sym is) (λ node edge e. absurd (omega (arith, empty_rows n node, e.1)))
+
+pub within_more : (G H : List (List Edge)) (node : ℕ) (edge : Edge) → AddsEdge G node edge H → AreWithin G → edge.to < length G → AreWithin H
+within_more G H node edge adds within below other e c = elim (adds.only other e c) as (λ v. e.to < length H) [
+  | inl a ↦ subst (λ n. e.to < n) (sym adds.nodes) (within other e a)
+  | inr b ↦ subst (λ n. e.to < n) (sym adds.nodes) (subst (λ (x : Edge). x.to < length G) (sym b.1) below)
+]

@@ -6,14 +6,14 @@ use Rattle.std.proofs.lemmas.List.{length-append}
 use Rattle.std.proofs.lemmas.List.Elements.{Contains-push, Contains-push_cases, Contains-append_left}
 use Rattle.std.proofs.lemmas.List.Sorted.{Contains-permutation, IsPermutation-sym}
 use Rattle.ml_base.specs.declared.weight.Weight.{Weight}
-use Rattle.ml_base.specs.Weight.{IsCappedAtMost, cap, capped_total}
+use Rattle.ml_base.specs.Weight.{IsCappedAtMost, cap}
 use Rattle.edge_search.specs.declared.edges.Edge.{Edge}
 use Rattle.edge_search.specs.declared.queue.Candidate.{Candidate}
 use Rattle.edge_search.specs.declared.queue.Came.{Came}
 use Rattle.edge_search.specs.declared.queue.Came.TheVariants.{Start, Over}
 use Rattle.edge_search.specs.Graph.{IsEdge, AreWithin, Trail, IsCheapest, trail_weight, edges_from}
 use Rattle.edge_search.specs.Visits.{AreOrdered, IsLightest, IsPassed, Leads, at_start, over}
-use Rattle.edge_search.specs.Exploring.{Adds, AnyOf, Follows, IsAfter, IsExplored, IsFound, Turns, after, with_edge}
+use Rattle.edge_search.specs.Exploring.{Adds, Follows, IsExplored, IsFound, Turns, after, with_edge}
 use Rattle.edge_search.proofs.Bags.{at_contains, at_end, at_pushed, contains_at, contains_cases, contains_head, contains_tail, pushed_at, slice_get-below}
 use Rattle.edge_search.proofs.Weights.{at_most-same, at_most-trans, cap-sum, full, total-at_most}
 

@@ -6,7 +6,7 @@ use Rattle.ml_base.specs.Weight.{IsCappedAtMost, cap, capped_total}
 use Rattle.edge_search.specs.declared.edges.Edge.{Edge}
 use Rattle.edge_search.specs.declared.queue.Candidate.{Candidate}
 use Rattle.edge_search.specs.declared.queue.Came.TheVariants.{Over}
-use Rattle.edge_search.specs.Graph.{IsEdge, Trail, trail_weight, edges_from}
+use Rattle.edge_search.specs.Graph.{Trail, trail_weight, edges_from}
 use Rattle.edge_search.specs.Visits.{AreOrdered, IsPassed, Leads}
 
 -- `new` lists what `old` lists, what R says, and nothing else

@@ -13,12 +13,7 @@ use std::alloc::Global;
 const MOST_TURNS: u64 = 1_099_511_627_776;
 
 /// Offers what the edge makes of the visit at the place.
-fn offer(
-    queue: &mut Queue,
-    visit: Candidate,
-    place: usize,
-    edge: Edge,
-) -> Result<(), NoMemory>
+fn offer(queue: &mut Queue, visit: Candidate, place: usize, edge: Edge) -> Result<(), NoMemory>
     ensures { IfOk result (λ _. IsPermutation (after visit place edge ∷ queue.old) queue.new) }
 {
     queue.push(Candidate {

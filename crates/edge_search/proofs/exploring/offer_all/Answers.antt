@@ -1,4 +1,3 @@
-use Rattle.std.proofs.Common.{◌≡◌}
 use Rattle.std.proofs.lemmas.Option.{slice_get-get_or}
 use Rattle.edge_search.specs.Exploring.{IsAfter, after}
 use Rattle.edge_search.proofs.Bags.{adds_next, adds_start}

@@ -1,4 +1,3 @@
-use Rattle.std.proofs.Common.{ℕ}
 use Rattle.edge_search.proofs.Backwards.{IsBack}
 use Rattle.edge_search.proofs.Searching.{places_left}
 use Rattle.edge_search.proofs.routes.backwards.Given as goal
