@@ -4,3 +4,6 @@ pub mod Kinds
 pub mod Aliases
 pub mod Lent
 pub mod Relations
+pub mod Tables
+pub mod Related
+pub mod ClassSets

@@ -1,0 +1,264 @@
+-- The labels of classes: what meeting the sets of their ports one after another gives.
+use Rattle.std.proofs.Common.{◌≡◌, ◌≢◌, ◌⊎◌, ℕ, zero, suc, ◌+◌, ◌<◌, ◌==◌, inl, inr, List, [], ◌∷◌, ◌++◌, Bool, true, false, ◌&&◌, ◌||◌, not, Option, None, Some, set, length, get_or, refl, sym, ◌∙◌, ap, subst, arith}
+use Rattle.std.specs.Prelude.{slice_get, option_map, unwrap_or, IsTrue, ◌↔◌}
+use Rattle.std.specs.List.{list_all, range_with_len, AllByRecursion}
+use Rattle.std.proofs.lemmas.Bool.{cases_Bool, cases_eq, eq-eqb, eqb-true, ne_eqb, and_parts, and_from}
+use Rattle.std.proofs.lemmas.List.{length-set}
+use Rattle.std.proofs.lemmas.List.Folds.{list_all-append}
+use Rattle.std.proofs.lemmas.Option.{slice_get_within}
+use Rattle.nml_elements.specs.declared.elements.Labels.{Labels}
+use Rattle.nml_elements.specs.declared.elements.Labels.TheVariants.{Unlabelled, Of}
+use Rattle.nml_elements.specs.Labels.{is_among}
+use Rattle.label_sets.specs.Ranges.{has}
+use Rattle.circuit_spec.specs.Faults.{ClassesFit, duplicate_ids, type_of}
+use Rattle.circuit_spec.specs.Network.{Name, Topology, Port, First, IsClass, IsInClassSet, Linked, label_type, ports}
+use Rattle.circuit_spec.proofs.Among.{among_first}
+use Rattle.circuit_spec.proofs.ClassLemmas.{First-unique, class_of_itself, class_of_linked, linked_back, linked_to_itself}
+use Rattle.nml_inventory.specs.Aliases.{AreClassNumbers, IsClassNumber}
+use Rattle.nml_inventory.specs.ClassSets.{admits, admits_at, all_admit, AreMerged, AreNarrowed, HasNarrowed, IsNarrowed}
+use Rattle.nml_inventory.specs.Relations.{AreClassLabels}
+use Rattle.nml_inventory.proofs.ClassNumbers.{port_id}
+use Rattle.nml_inventory.proofs.Distinct.{AreDistinct, same_place}
+use Rattle.nml_inventory.proofs.Gets.{one_of_some}
+use Rattle.nml_inventory.proofs.PortNumbers.{distinct_ports, some_at}
+
+and_true : (b : Bool) → (b && true) ≡ b
+and_true true = refl
+and_true false = refl
+
+and_self : (b : Bool) → (b && b) ≡ (b && true)
+and_self true = refl
+and_self false = refl
+
+and_assoc : (a b c : Bool) → ((a && b) && c) ≡ (a && (b && c))
+and_assoc true b c = refl
+and_assoc false b c = refl
+
+-- a set met with itself
+pub met_itself : (b c : Bool) → c ≡ (b && b) → c ≡ (b && true)
+met_itself b c e = e ∙ and_self b
+
+own_admits : (l : Labels) (label : ℕ) → (is_among l label && admits l label) ≡ (is_among l label && true)
+own_admits Unlabelled label = refl
+own_admits (Of labeltype s) label = and_self (has s label)
+
+-- The labels of each port, at first
+
+pub record AreOwn (T : Topology) (classes : List ℕ) (count : ℕ) (labels : List Labels) : Type 0 where
+  pub long : length labels ≡ count
+  pub each : (number : ℕ) (found : Labels) → slice_get labels number ≡ Some found → IsNarrowed T classes 0 number found
+
+push_cases : {A : Type 0} (xs : List A) (x : A) (n : ℕ) (y : A) → slice_get (xs ++ x ∷ []) n ≡ Some y → (slice_get xs n ≡ Some y) ⊎ ((n ≡ length xs) × (x ≡ y))
+push_cases [] x zero y at = inr (refl, one_of_some at)
+push_cases [] x (suc n) y at = cc
+push_cases (z ∷ xs) x zero y at = inl at
+push_cases (z ∷ xs) x (suc n) y at = elim (push_cases xs x n y at) [ inl e ↦ inl e | inr p ↦ inr (ap suc p.0, p.1) ]
+
+pub own_none : (T : Topology) (classes : List ℕ) → AreOwn T classes 0 []
+own_none T classes = record { long = refl; each = λ number found at. cc }
+
+pub own_more : (T : Topology) (classes : List ℕ) (count : ℕ) (labels : List Labels) (q : Port) (own new : Labels) → AreOwn T classes count labels → slice_get (ports T) count ≡ Some q → own ≡ q.labels → HasNarrowed own own new → AreOwn T classes (count + 1) (labels ++ new ∷ [])
+own_more T classes count labels q own new a at is n = record {
+  long = long labels;
+  each = λ number found found_at. one number found (push_cases labels new number found found_at);
+}
+  where
+    long_by : {A : Type 0} (xs : List A) (x : A) → length (xs ++ x ∷ []) ≡ length xs + 1
+    long_by [] x = refl
+    long_by (y ∷ xs) x = omega (arith, long_by xs x)
+
+    long : (xs : List Labels) → length (labels ++ new ∷ []) ≡ count + 1
+    long xs = omega (arith, long_by labels new, a.long)
+
+    one : (number : ℕ) (found : Labels) → (slice_get labels number ≡ Some found) ⊎ ((number ≡ length labels) × (new ≡ found)) → IsNarrowed T classes 0 number found
+    one number found (inl before) = a.each number found before
+    one number found (inr here) = record {
+      port = q;
+      at = ap (slice_get (ports T)) (here.0 ∙ a.long) ∙ at;
+      typed = ap label_type (sym here.1) ∙ n.typed ∙ ap label_type is;
+      each = λ label. ap (λ (l : Labels). is_among l label) (sym here.1) ∙ n.each label ∙ own_admits own label ∙ ap (λ (l : Labels). is_among l label && true) is;
+    }
+
+pub all_own : (T : Topology) (classes : List ℕ) (count : ℕ) (labels : List Labels) → count ≡ length (ports T) → AreOwn T classes count labels → AreNarrowed T classes 0 labels
+all_own T classes count labels e a = record { long = a.long ∙ e; each = a.each }
+
+-- One more port
+
+set_cases : {A : Type 0} (xs : List A) (k : ℕ) (v : A) (n : ℕ) (y : A) → slice_get (set xs k v) n ≡ Some y → ((n ≡ k) × (v ≡ y)) ⊎ ((n ≢ k) × (slice_get xs n ≡ Some y))
+set_cases [] k v n y at = cc
+set_cases (x ∷ xs) zero v zero y at = inl (refl, one_of_some at)
+set_cases (x ∷ xs) zero v (suc n) y at = inr ((λ e. omega arith), at)
+set_cases (x ∷ xs) (suc k) v zero y at = inr ((λ e. omega arith), at)
+set_cases (x ∷ xs) (suc k) v (suc n) y at = elim (set_cases xs k v n y at) [ inl p ↦ inl (ap suc p.0, p.1) | inr p ↦ inr ((λ e. p.0 (omega (arith, e))), p.1) ]
+
+range_more : (s n : ℕ) → range_with_len s (n + 1) ≡ range_with_len s n ++ (s + n) ∷ []
+range_more s zero = let e : s ≡ s + 0 = omega arith in ap (λ y. y ∷ []) e
+range_more s (suc n) =
+    let f : suc n + 1 ≡ suc (n + 1) = omega arith in
+    let e : s + 1 + n ≡ s + suc n = omega arith in
+    ap (range_with_len s) f ∙ ap (λ ys. s ∷ ys) (range_more (s + 1) n ∙ ap (λ y. range_with_len (s + 1) n ++ y ∷ []) e)
+
+all_more : (T : Topology) (classes : List ℕ) (count class label : ℕ) → all_admit T classes (count + 1) class label ≡ (all_admit T classes count class label && (not (get_or classes count 0 == class) || admits_at T count label))
+all_more T classes count class label =
+    let t : ℕ → Bool = λ n. not (get_or classes n 0 == class) || admits_at T n label in
+    let e : 0 + count ≡ count = omega arith in
+    ap (list_all t) (range_more 0 count) ∙ list_all-append t (range_with_len 0 count) ((0 + count) ∷ [])
+    ∙ ap (λ b. list_all t (range_with_len 0 count) && b) (and_true (t (0 + count)) ∙ ap t e)
+
+pub narrowed_more : (T : Topology) (classes : List ℕ) (count : ℕ) (labels : List Labels) (k : ℕ) (old own new : Labels) (q : Port) → AreNarrowed T classes count labels → k ≡ get_or classes count 0 → slice_get labels k ≡ Some old → slice_get (ports T) count ≡ Some q → own ≡ q.labels → HasNarrowed old own new → AreNarrowed T classes (count + 1) (set labels k new)
+narrowed_more T classes count labels k old own new q a is old_at at own_is n = record {
+  long = length-set labels k new ∙ a.long;
+  each = λ number found found_at. one number found (set_cases labels k new number found found_at);
+}
+  where
+    here : (label : ℕ) → (not (get_or classes count 0 == k) || admits_at T count label) ≡ admits own label
+    here label =
+        ap (λ b. not b || admits_at T count label) (eq-eqb (get_or classes count 0) k (sym is))
+        ∙ ap (λ (o : Option Port). unwrap_or (option_map (λ (p : Port). admits p.labels label) o) true) at
+        ∙ ap (λ (l : Labels). admits l label) (sym own_is)
+
+    one : (number : ℕ) (found : Labels) → ((number ≡ k) × (new ≡ found)) ⊎ ((number ≢ k) × (slice_get labels number ≡ Some found)) → IsNarrowed T classes (count + 1) number found
+    one number found (inl p) =
+        let before = a.each k old old_at in record {
+          port = before.port;
+          at = ap (slice_get (ports T)) p.0 ∙ before.at;
+          typed = ap label_type (sym p.1) ∙ n.typed ∙ before.typed;
+          each = λ label.
+              ap (λ (l : Labels). is_among l label) (sym p.1) ∙ n.each label
+              ∙ ap (λ b. b && admits own label) (before.each label)
+              ∙ and_assoc (is_among before.port.labels label) (all_admit T classes count k label) (admits own label)
+              ∙ ap (λ b. is_among before.port.labels label && (all_admit T classes count k label && b)) (sym (here label))
+              ∙ ap (λ b. is_among before.port.labels label && b) (sym (all_more T classes count k label))
+              ∙ ap (λ m. is_among before.port.labels label && all_admit T classes (count + 1) m label) (sym p.0);
+        }
+    one number found (inr p) =
+        let before = a.each number found p.1 in record {
+          port = before.port;
+          at = before.at;
+          typed = before.typed;
+          each = λ label.
+              before.each label
+              ∙ ap (λ b. is_among before.port.labels label && b)
+              (sym (all_more T classes count number label
+              ∙ ap (λ b. all_admit T classes count number label && (not b || admits_at T count label)) (ne_eqb (get_or classes count 0) number (λ e. p.0 (sym e ∙ sym is)))
+              ∙ and_true (all_admit T classes count number label)));
+        }
+
+-- What the labels of a class are
+
+all_range : (t : ℕ → Bool) (a n : ℕ) → list_all t (range_with_len a n) ≡ true → (j : ℕ) → j < n → t (a + j) ≡ true
+all_range t a zero h j l = absurd (omega arith)
+all_range t a (suc n) h zero l = let e : a + 0 ≡ a = omega arith in ap t e ∙ (and_parts (t a) (list_all t (range_with_len (a + 1) n)) h).0
+all_range t a (suc n) h (suc j) l =
+    let e : a + suc j ≡ a + 1 + j = omega arith in
+    ap t e ∙ all_range t (a + 1) n (and_parts (t a) (list_all t (range_with_len (a + 1) n)) h).1 j (omega (arith, l))
+
+from_range : (t : ℕ → Bool) (a n : ℕ) → ((j : ℕ) → j < n → t (a + j) ≡ true) → list_all t (range_with_len a n) ≡ true
+from_range t a zero all = refl
+from_range t a (suc n) all =
+    let e : a ≡ a + 0 = omega arith in
+    and_from (t a) (list_all t (range_with_len (a + 1) n)) (ap t e ∙ all 0 (omega arith))
+    (from_range t (a + 1) n (λ j l. let f : a + 1 + j ≡ a + suc j = omega arith in ap t f ∙ all (suc j) (omega (arith, l))))
+
+all_at : {A : Type 0} (P : A → Type 0) (xs : List A) (i : ℕ) (x : A) → AllByRecursion P xs → slice_get xs i ≡ Some x → P x
+all_at P [] i x all at = cc
+all_at P (y ∷ xs) zero x all at = subst P (one_of_some at) all.0
+all_at P (y ∷ xs) (suc i) x all at = all_at P xs i x all.1 at
+
+from_each : {A : Type 0} (P : A → Type 0) (xs : List A) → ((i : ℕ) (x : A) → slice_get xs i ≡ Some x → P x) → AllByRecursion P xs
+from_each P [] each = tt
+from_each P (y ∷ xs) each = (each 0 y refl, from_each P xs (λ i x at. each (suc i) x at))
+
+to_among : (l class : Labels) (label : ℕ) → admits l label ≡ true → is_among class label ≡ true → label_type l ≡ label_type class → is_among l label ≡ true
+to_among (Of labeltype s) class label h c e = h
+to_among Unlabelled Unlabelled label h c e = c
+to_among Unlabelled (Of labeltype s) label h c e = cc
+
+admits_from : (l : Labels) (label : ℕ) → is_among l label ≡ true → admits l label ≡ true
+admits_from Unlabelled label h = refl
+admits_from (Of labeltype s) label h = h
+
+-- the port of a number and the first of its class
+record AreOfClass (T : Topology) (j k : ℕ) (q class : Port) : Type 0 where
+  is : IsClass T q.id class
+  first_at : slice_get (ports T) k ≡ Some class
+
+of_class : (T : Topology) (j k : ℕ) (q : Port) → IsClassNumber T j k → slice_get (ports T) j ≡ Some q → (class : Port) × AreOfClass T j k q class
+of_class T j k q n at =
+    let same : n.port ≡ q = one_of_some (sym n.is_port ∙ at) in
+    (n.first, record { is = subst (λ (p : Port). IsClass T p.id n.first) same n.is_class; first_at = n.is_first })
+
+pub merged_labels : (T : Topology) (labels : List Labels) (number k : ℕ) (found : Labels) → duplicate_ids T ≡ [] → AreMerged T labels → IsClassNumber T number k → slice_get labels k ≡ Some found → ClassesFit T → (p class : Port) → slice_get (ports T) number ≡ Some p → IsClass T p.id class → AreClassLabels T class found
+merged_labels T labels number k found once m n found_at fit p class at is_class = record {
+  typed = narrow.typed ∙ ap (λ (q : Port). label_type q.labels) is_first;
+  each = λ label. (forth label, back label);
+}
+  where
+    narrow : IsNarrowed T m.classes (length (ports T)) k found
+    narrow = m.narrowed.each k found found_at
+
+    mine : (c : Port) × AreOfClass T number k p c
+    mine = of_class T number k p n at
+
+    same_class : mine.0 ≡ class
+    same_class = First-unique (λ (q : Port). Linked T p.id q.id) (ports T) mine.0 class mine.1.is is_class
+
+    class_at : slice_get (ports T) k ≡ Some class
+    class_at = mine.1.first_at ∙ ap Some same_class
+
+    is_first : narrow.port ≡ class
+    is_first = one_of_some (sym narrow.at ∙ class_at)
+
+    itself : IsClass T class.id class
+    itself = class_of_itself T p.id class is_class
+
+    -- a linked port has the class's number
+    numbered : (j : ℕ) (q : Port) → slice_get (ports T) j ≡ Some q → Linked T class.id q.id → get_or m.classes j 0 ≡ k
+    numbered j q q_at l =
+        let theirs = of_class T j (get_or m.classes j 0) q (m.numbered.each j (slice_get_within (ports T) j q q_at)) q_at in
+        let same : theirs.0 ≡ class = First-unique (λ (x : Port). Linked T q.id x.id) (ports T) theirs.0 class theirs.1.is (class_of_linked T class.id q.id class l itself) in
+        same_place port_id (ports T) (get_or m.classes j 0) k theirs.0 class (distinct_ports T once) theirs.1.first_at class_at (ap port_id same)
+
+    -- and a port of the number is linked
+    linked : (j : ℕ) (q : Port) → slice_get (ports T) j ≡ Some q → get_or m.classes j 0 ≡ k → Linked T class.id q.id
+    linked j q q_at e =
+        let theirs = of_class T j (get_or m.classes j 0) q (m.numbered.each j (slice_get_within (ports T) j q q_at)) q_at in
+        let same : theirs.0 ≡ class = one_of_some (sym theirs.1.first_at ∙ ap (slice_get (ports T)) e ∙ class_at) in
+        linked_back T q.id class.id (subst (λ (x : Port). Linked T q.id x.id) same (among_first (λ (x : Port). Linked T q.id x.id) (ports T) theirs.0 theirs.1.is).1)
+
+    admitted : (j label : ℕ) (q : Port) → slice_get (ports T) j ≡ Some q → admits_at T j label ≡ admits q.labels label
+    admitted j label q q_at = ap (λ (o : Option Port). unwrap_or (option_map (λ (x : Port). admits x.labels label) o) true) q_at
+
+    forth : (label : ℕ) → IsTrue (is_among found label) → IsInClassSet T class label
+    forth label h =
+        let parts = and_parts (is_among narrow.port.labels label) (all_admit T m.classes (length (ports T)) k label) (sym (narrow.each label) ∙ h) in
+        let own : is_among class.labels label ≡ true = ap (λ (q : Port). is_among q.labels label) (sym is_first) ∙ parts.0 in
+        from_each (λ (q : Port). Linked T class.id q.id → IsTrue (is_among q.labels label)) (ports T)
+        (λ j q q_at l.
+            let e = numbered j q q_at l in
+            let f : j ≡ 0 + j = omega arith in
+            let t : ℕ → Bool = λ i. not (get_or m.classes i 0 == k) || admits_at T i label in
+            let yes : t j ≡ true = ap t f ∙ all_range t 0 (length (ports T)) parts.1 j (slice_get_within (ports T) j q q_at) in
+            let admits_it : admits q.labels label ≡ true = sym (admitted j label q q_at) ∙ sym (ap (λ b. not b || admits_at T j label) (eq-eqb (get_or m.classes j 0) k e)) ∙ yes in
+            let fits = all_at (λ (x : Port). Linked T class.id x.id → (x.encoding ≡ class.encoding) × (type_of x ≡ type_of class)) (ports T) j q
+            (all_at (λ (y : Port). AllByRecursion (λ (x : Port). Linked T y.id x.id → (x.encoding ≡ y.encoding) × (type_of x ≡ type_of y)) (ports T)) (ports T) k class fit class_at) q_at in
+            to_among q.labels class.labels label admits_it own (fits l).1)
+
+    back : (label : ℕ) → IsInClassSet T class label → IsTrue (is_among found label)
+    back label all =
+        let member : (j : ℕ) (q : Port) → slice_get (ports T) j ≡ Some q → Linked T class.id q.id → is_among q.labels label ≡ true =
+        λ j q q_at l. all_at (λ (x : Port). Linked T class.id x.id → IsTrue (is_among x.labels label)) (ports T) j q all q_at l in
+        let own : is_among narrow.port.labels label ≡ true = ap (λ (q : Port). is_among q.labels label) is_first ∙ member k class class_at (linked_to_itself T class.id) in
+        let each : all_admit T m.classes (length (ports T)) k label ≡ true =
+        from_range (λ i. not (get_or m.classes i 0 == k) || admits_at T i label) 0 (length (ports T))
+        (λ j l.
+            let f : 0 + j ≡ j = omega arith in
+            let q = some_at (ports T) j l in
+            ap (λ i. not (get_or m.classes i 0 == k) || admits_at T i label) f
+            ∙ one j q.0 q.1 (member j q.0 q.1) (get_or m.classes j 0 == k) refl) in
+        narrow.each label ∙ and_from (is_among narrow.port.labels label) (all_admit T m.classes (length (ports T)) k label) own each
+      where
+        one : (j : ℕ) (q : Port) → slice_get (ports T) j ≡ Some q → (Linked T class.id q.id → is_among q.labels label ≡ true) → (b : Bool) → (get_or m.classes j 0 == k) ≡ b → (not (get_or m.classes j 0 == k) || admits_at T j label) ≡ true
+        one j q q_at member true e =
+            ap (λ b. not b || admits_at T j label) e ∙ admitted j label q q_at ∙ admits_from q.labels label (member (linked j q q_at (eqb-true (get_or m.classes j 0) k e)))
+        one j q q_at member false e = ap (λ b. not b || admits_at T j label) e

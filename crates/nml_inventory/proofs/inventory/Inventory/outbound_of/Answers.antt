@@ -1,0 +1,32 @@
+use Rattle.std.proofs.Common.{◌≡◌, ◌∙◌, [], true, refl, sym, ap, subst, map}
+use Rattle.nml_elements.specs.declared.elements.Element.{Element}
+use Rattle.ml_base.specs.declared.numbers.PortNo.{PortNo}
+use Rattle.circuit_spec.specs.Network.{Topology, Placed, Port, id_of, names}
+use Rattle.nml_inventory.specs.declared.arcs.PortMember.TheVariants.{Sources, Sinks, Services}
+use Rattle.nml_inventory.specs.declared.arcs.Listing.TheVariants.{Inbound, Outbound, Provided}
+use Rattle.nml_inventory.specs.Relations.{AreNumbersOf, is_source, is_sink, is_server, is_client, is_inbound, is_outbound}
+use Rattle.nml_inventory.specs.Tables.{in_element, in_port, inbound_in, lent_to, outbound_in, provided_in}
+use Rattle.nml_inventory.proofs.Lending.{related, unrelated}
+use Rattle.nml_inventory.proofs.Spans.{number_of}
+use Rattle.nml_inventory.proofs.Answering.{outbound_own, outbound_lent, outbound_neither}
+use Rattle.nml_inventory.proofs.inventory.Inventory.outbound_of.Goals as goal
+
+pub returns-in-Own : goal.returns-in-Own
+returns-in-Own c =
+    let T = c.self.inside.numbered in
+    subst (λ (U : Topology). AreNumbersOf U (is_outbound U) c.args.number (map number_of c.of.result.now)) c.self.view_is
+    (related T (is_outbound T) (λ (e : Placed) (q : Port). names (in_element Outbound e.element) q.id) c.args.number c.at.result.now c.at.result.now (map number_of c.of.result.now) c.self.inside.relations.outbound c.at.ensures refl
+    (λ x is j q q_at. ap (λ (e : Element). names (outbound_in e) q.id) is ∙ outbound_own T c.at.result.now q (sym c.held_by.ensures ∙ c.in-Own.is)) c.self.invariant.relations_are.outbound_are c.of.ensures)
+
+pub returns-in-Lent : goal.returns-in-Lent
+returns-in-Lent c =
+    let T = c.self.inside.numbered in
+    subst (λ (U : Topology). AreNumbersOf U (is_outbound U) c.args.number (map number_of c.of-in-Lent.result.now)) c.self.view_is
+    (related T (is_outbound T) (λ (e : Placed) (q : Port). lent_to T Outbound e.element q) c.args.number c.at.result.now c.at.result.now (map number_of c.of-in-Lent.result.now) c.self.inside.relations.lent_outbound c.at.ensures refl
+    (λ x is j q q_at. ap (λ (e : Element). lent_to T Outbound e q) is ∙ outbound_lent T c.at.result.now j q c.self.invariant.once (sym c.held_by.ensures ∙ c.in-Lent.is) q_at) c.self.invariant.relations_are.lent_outbound_are c.of-in-Lent.ensures)
+
+pub returns-in-Neither : goal.returns-in-Neither
+returns-in-Neither c =
+    let T = c.self.inside.numbered in
+    subst (λ (U : Topology). AreNumbersOf U (is_outbound U) c.args.number []) c.self.view_is
+    (unrelated T (is_outbound T) c.args.number c.at.result.now c.at.result.now [] c.at.ensures refl (λ q. outbound_neither T c.at.result.now q (sym c.held_by.ensures ∙ c.in-Neither.is)) refl)
