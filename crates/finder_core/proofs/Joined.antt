@@ -147,11 +147,11 @@ module _ (T : Topology) (number : ℕ) (sources sinks inbound outbound : List Po
   has_edges : HasEdgesOf T new number
   has_edges placed p q from to at p_at q_at r = elim (or_cases (is_source placed.element from && is_sink placed.element to) (is_inbound T placed.element from && is_outbound T placed.element to) r) as (λ v. HasEdge new number p q) [
     | inl l ↦
-      let b = and_parts (is_source placed.element from) (is_sink placed.element to) l in
-      still_has now new number p q second.kept (first.all p q (port_listed T is_source number sources are_sources placed at p from p_at b.0, port_listed T is_sink number sinks are_sinks placed at q to q_at b.1))
+        let b = and_parts (is_source placed.element from) (is_sink placed.element to) l in
+        still_has now new number p q second.kept (first.all p q (port_listed T is_source number sources are_sources placed at p from p_at b.0, port_listed T is_sink number sinks are_sinks placed at q to q_at b.1))
     | inr s ↦
-      let b = and_parts (is_inbound T placed.element from) (is_outbound T placed.element to) s in
-      second.all p q (port_listed T (is_inbound T) number inbound are_inbound placed at p from p_at b.0, port_listed T (is_outbound T) number outbound are_outbound placed at q to q_at b.1)
+        let b = and_parts (is_inbound T placed.element from) (is_outbound T placed.element to) s in
+        second.all p q (port_listed T (is_inbound T) number inbound are_inbound placed at p from p_at b.0, port_listed T (is_outbound T) number outbound are_outbound placed at q to q_at b.1)
   ]
 
   module _ (placed : Placed) (at : slice_get (elements_of T) number ≡ Some placed) where

@@ -78,7 +78,6 @@ module _ (T : Topology) (r : Request) (once : duplicate_ids T ≡ []) (built : I
 
 -- What a capped weight says of the whole one
 
-
 cap-known : (w : FullWeight) → w.cost < 2 ^ 64 → cap w ≡ weight.Known w.cost (min w.hops (2 ^ 40))
 cap-known w l = grind (arith, common_steps)
 

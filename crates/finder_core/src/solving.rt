@@ -92,11 +92,7 @@ fn search(
 ///
 /// `UnknownPort` where FROM or else TO is no port, `LabelNotHere` where the label that is stated at FROM or else at TO is not in the
 /// set of its port's class, and `NoMemory`.
-pub fn solve(
-    alloc: Global,
-    inventory: &Inventory,
-    request: &Request,
-) -> Result<Solved, SolveFault>
+pub fn solve(alloc: Global, inventory: &Inventory, request: &Request) -> Result<Solved, SolveFault>
     requires sound { IsSound inventory.now }
     requires built { IsBuilt inventory.now }
     ensures outcome { IfOk result (λ s. IsOutcome inventory.now request.now s.outcome) }
