@@ -1,0 +1,5 @@
+mod Weights
+pub mod Bags
+mod Searching
+mod Filing
+mod Backwards

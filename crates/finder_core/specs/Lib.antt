@@ -1,0 +1,4 @@
+pub mod Built
+pub mod Joining
+pub mod Solved
+pub mod Outcomes
