@@ -1,8 +1,8 @@
 -- The function that reads a group text gives what the relations say.
-use Rattle.std.proofs.Common.{◌≡◌, ◌⊎◌, inl, inr, ℕ, zero, suc, ◌+◌, ◌<◌, ◌≤◌, ◌^◌, min, max, List, [], ◌∷◌, ◌++◌, length, take, Bool, true, false, ◌||◌, cond, ltb, Option, None, Some, Result, Ok, Err, refl, sym, ap, ◌∙◌, subst, arith}
+use Rattle.std.proofs.Common.{◌≡◌, ◌⊎◌, inl, inr, ℕ, zero, suc, ◌+◌, ◌<◌, ◌≤◌, ◌^◌, min, max, List, [], ◌∷◌, ◌++◌, length, take, Bool, true, false, ◌||◌, cond, ltb, Option, None, Some, Ok, Err, refl, sym, ap, ◌∙◌, subst, arith}
 use Rattle.std.specs.Option.{is_some}
 use Rattle.std.specs.List.{AllByRecursion}
-use Rattle.std.proofs.lemmas.Bool.{cases_lt, ltb-true, ltb-false, false≢true}
+use Rattle.std.proofs.lemmas.Bool.{cases_lt, ltb-true, ltb-false}
 use Rattle.std.proofs.lemmas.Bool.Decides.{nat_tests}
 use Rattle.label_sets.specs.Ranges.{RiseFrom, AreRanges, is_within, has, IsSetOf}
 use Rattle.label_sets.specs.GroupText.{IsGroupText, IsNoGroupText, IsSetOfText, IsRefusedAt, one, more}
@@ -10,7 +10,7 @@ use Rattle.label_sets.specs.Reading.{Front, fresh, range_of, run, accepts}
 use Rattle.label_sets.specs.GroupSet.{SomeRanges, all_of, with_range, set_of, longest_within, group_from, group_of}
 use Rattle.label_sets.proofs.Canonical.{set_is_one}
 use Rattle.label_sets.proofs.Merge.{has-append}
-use Rattle.label_sets.proofs.Scan.{IsReadTo, run_group, group_run, group_accepted, accepted_group, refused_group}
+use Rattle.label_sets.proofs.Scan.{run_group, group_run, group_accepted, accepted_group, refused_group}
 
 -- ---- a set with one more range
 

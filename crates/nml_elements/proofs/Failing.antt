@@ -1,5 +1,5 @@
 -- A fault stops a reading.
-use Rattle.std.proofs.Common.{◌≡◌, Result, Ok, Err, ap}
+use Rattle.std.proofs.Common.{Result, ap}
 use Rattle.nml_elements.specs.declared.fault.MemberFault.{MemberFault}
 use Rattle.nml_elements.specs.declared.fault.MemberFault.TheVariants.{Rule, Label, NoMemory}
 use Rattle.nml_elements.specs.Gives.{◌>>=◌, Fails}

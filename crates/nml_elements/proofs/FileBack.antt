@@ -1,21 +1,19 @@
 -- A domain that is written is read again.
-use Rattle.std.proofs.Common.{◌≡◌, ℕ, suc, ◌+◌, ◌≤◌, List, [], ◌∷◌, length, Bool, true, false, codes, ltb, Option, Some, None, Result, Ok, Err, String, string_bytes, refl, sym, ap, ◌∙◌, subst, arith, IsUtf8}
+use Rattle.std.proofs.Common.{◌≡◌, ℕ, suc, ◌+◌, ◌≤◌, List, [], ◌∷◌, length, false, codes, ltb, Some, Ok, refl, sym, ap, arith, IsUtf8}
 use Rattle.std.proofs.lemmas.Bool.Decides.{nat_tests}
-use Rattle.std.specs.List.{AllByRecursion}
-use Rattle.serde_json.specs.Data.{Data, array, Items, no_items, item}
+use Rattle.serde_json.specs.Data.{array}
 use Rattle.serde_json.specs.Events.{items_len}
 use Rattle.serde_json.specs.Read.{read}
 use Rattle.ml_base.specs.Text.{IsIdText}
 use Rattle.nml_elements.specs.declared.elements.Entry.{Entry}
 use Rattle.nml_elements.specs.declared.elements.Domain.{Domain}
-use Rattle.nml_elements.specs.Kept.{MayBeId, Keeps}
-use Rattle.nml_elements.specs.ElementReading.{element_at}
-use Rattle.nml_elements.specs.FileReading.{at_element, entries_at, format_at, array_at, domain_at, json_of, domain_of}
-use Rattle.nml_elements.specs.ElementWriting.{Part, object_of, text_part, optional_text_part, number_part, element_data}
+use Rattle.nml_elements.specs.Kept.{MayBeId}
+use Rattle.nml_elements.specs.FileReading.{entries_at, format_at, array_at, domain_at, domain_of}
+use Rattle.nml_elements.specs.ElementWriting.{object_of, number_part}
 use Rattle.nml_elements.specs.FileWriting.{AreCounted, AreKept, entries_data, domain_parts, domain_data}
 use Rattle.nml_elements.proofs.Json.{json_of-text}
 use Rattle.nml_elements.proofs.MemberWriting.{id_written, optional_id_written}
-use Rattle.nml_elements.proofs.Parts.{looked_up, part_is}
+use Rattle.nml_elements.proofs.Parts.{part_is}
 use Rattle.nml_elements.proofs.ReadBack.{element_read, is_object}
 
 numbered : (n : ℕ) (entry : Entry) → entry.number ≡ n → record { number = n; element = entry.element } ≡ entry

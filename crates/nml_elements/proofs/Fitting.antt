@@ -1,5 +1,5 @@
 -- Labels that fit are told by their group and themselves, whatever shows that they fit.
-use Rattle.std.proofs.Common.{◌≡◌, Bool, true, IsTrue, refl, ap, subst}
+use Rattle.std.proofs.Common.{◌≡◌, Bool, true, IsTrue, ap, subst}
 use Rattle.std.proofs.Math.Bool.{Bool-set}
 use Rattle.nml_elements.specs.declared.elements.Labels.{Labels}
 use Rattle.nml_elements.specs.declared.fitted_labels.FittedLabels.{FittedLabels}

@@ -1,22 +1,19 @@
 -- A member that is written is read again.
-use Rattle.std.proofs.Common.{◌≡◌, ◌≢◌, ℕ, ◌<◌, ◌^◌, List, [], ◌∷◌, Bool, true, false, IsTrue, ltb, codes, Option, Some, None, Result, Ok, Err, refl, sym, ap, ◌∙◌, subst, eqb, arith}
+use Rattle.std.proofs.Common.{◌≡◌, ◌≢◌, ℕ, ◌<◌, ◌^◌, List, [], ◌∷◌, Bool, true, false, IsTrue, codes, Option, Some, None, Ok, refl, sym, ap, ◌∙◌, arith}
 use Rattle.std.proofs.lemmas.Bool.{lt-ltb, eqb-true}
-use Rattle.serde_json.specs.Data.{Data, number, unsigned, object, array, string}
+use Rattle.serde_json.specs.Data.{array, string}
 use Rattle.ml_base.specs.Text.{IsIdText}
 use Rattle.label_sets.specs.Ranges.{AreRanges}
 use Rattle.label_sets.specs.GroupText.{written}
-use Rattle.label_sets.specs.GroupSet.{SomeRanges, all_of, group_of}
 use Rattle.label_sets.proofs.Canonical.{written_text}
 use Rattle.label_sets.proofs.GroupSet.{spelt_set}
 use Rattle.nml_elements.specs.declared.elements.Labels.{Labels}
 use Rattle.nml_elements.specs.declared.elements.Labels.TheVariants.{Unlabelled, Of}
-use Rattle.nml_elements.specs.declared.fault.MemberFault.{MemberFault}
-use Rattle.nml_elements.specs.declared.fitted_labels.FittedLabels.{FittedLabels}
 use Rattle.nml_elements.specs.Kept.{AreIds, MayBeId, MayBeIds, AreLabels}
 use Rattle.nml_elements.specs.Labels.{fits_group}
-use Rattle.nml_elements.specs.MemberReading.{present, part, id_at, required_from, required_id, optional_from, optional_id, ids_at, array_at, relation_from, relation, optional_relation_from, optional_relation, cost_at, swapping_from, swapping_at}
-use Rattle.nml_elements.specs.LabelReading.{label_from, label_at, set_from, set_at, group_fault, group_label_from, group_label_at, labels_at}
-use Rattle.nml_elements.specs.ElementWriting.{Part, object_of, text_part, optional_text_part, number_part, swapping_part, texts, list_part, relation_part, optional_relation_part, labels_key, first_label, set_part, labels_part}
+use Rattle.nml_elements.specs.MemberReading.{present, id_at, required_from, required_id, optional_from, optional_id, ids_at, array_at, relation_from, relation, optional_relation_from, optional_relation, cost_at, swapping_from, swapping_at}
+use Rattle.nml_elements.specs.LabelReading.{label_from, label_at, set_at, group_label_from, group_label_at, labels_at}
+use Rattle.nml_elements.specs.ElementWriting.{Part, object_of, text_part, optional_text_part, number_part, swapping_part, texts, relation_part, optional_relation_part, labels_key, set_part, labels_part}
 use Rattle.nml_elements.proofs.IdTest.{text_id}
 use Rattle.nml_elements.proofs.Fitting.{fitted_by}
 use Rattle.nml_elements.proofs.Parts.{looked_up, part_is}

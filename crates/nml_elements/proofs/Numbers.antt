@@ -1,18 +1,16 @@
 -- The entries of a file have its elements' numbers.
-use Rattle.std.proofs.Common.{◌≡◌, ℕ, suc, ◌+◌, ◌≤◌, List, [], ◌∷◌, length, Option, Some, None, Result, Ok, Err, refl, sym, ap, ◌∙◌, arith, subst, Bool, true, false, cond, ltb, codes, IfOk}
+use Rattle.std.proofs.Common.{◌≡◌, ℕ, suc, ◌+◌, ◌≤◌, List, [], ◌∷◌, length, Option, Some, None, Result, Ok, Err, refl, ap, arith, subst, Bool, true, false, cond, ltb}
 use Rattle.std.proofs.lemmas.Bool.{ltb-false}
 use Rattle.serde_json.specs.Data.{Data, Items, no_items, item}
 use Rattle.serde_json.specs.Events.{items_len}
 use Rattle.nml_elements.specs.declared.fault.MemberFault.{MemberFault}
 use Rattle.nml_elements.specs.declared.fault.MemberFault.TheVariants.{Rule}
 use Rattle.nml_elements.specs.declared.fault.ReadFault.{ReadFault}
-use Rattle.nml_elements.specs.declared.elements.Domain.{Domain}
 use Rattle.nml_elements.specs.declared.elements.Element.{Element}
 use Rattle.nml_elements.specs.declared.elements.Entry.{Entry}
 use Rattle.nml_elements.specs.Gives.{◌>>=◌}
 use Rattle.nml_elements.specs.ElementReading.{element_at}
-use Rattle.nml_elements.specs.MemberReading.{part, required_id, optional_id}
-use Rattle.nml_elements.specs.FileReading.{AreNumbered, Reads, at_element, with_entry, entries_at, format_at, elements_part, array_from, array_at, domain_at}
+use Rattle.nml_elements.specs.FileReading.{AreNumbered, at_element, with_entry, entries_at, elements_part, array_from, array_at}
 
 -- entries with numbers from n, at most so many
 abbrev pub AreWithin : ℕ → ℕ → List Entry → Type 0

@@ -1,24 +1,18 @@
 -- What is written nests little, and has no float.
-use Rattle.std.proofs.Common.{◌≡◌, ℕ, suc, ◌≤◌, max, List, [], ◌∷◌, Bool, true, false, ◌||◌, Option, Some, None, Ordering, Less, Equal, Greater, refl, ap, ◌∙◌, arith}
+use Rattle.std.proofs.Common.{◌≡◌, ℕ, suc, ◌≤◌, List, [], ◌∷◌, Bool, true, false, ◌||◌, Option, Some, None, Ordering, Less, Equal, Greater, refl, arith}
 use Rattle.std.proofs.lemmas.Bool.{or_from}
 use Rattle.std.specs.Ordering.{nat_cmp, match_ordering}
 use Rattle.std.specs.Cmp.Lexicographic.{slice_cmp}
-use Rattle.serde_json.specs.Data.{Data, string, array, object, Items, no_items, item, Members, no_members, member, put, depth, items_depth, members_depth}
+use Rattle.serde_json.specs.Data.{Data, array, Items, Members, no_members, member, put, depth, items_depth, members_depth}
 use Rattle.serde_json.specs.Written.{has_float, items_have_float, members_have_float}
 use Rattle.label_sets.specs.GroupText.{written}
 use Rattle.nml_elements.specs.declared.elements.Labels.{Labels}
 use Rattle.nml_elements.specs.declared.elements.Labels.TheVariants.{Unlabelled, Of}
 use Rattle.nml_elements.specs.declared.elements.Entry.{Entry}
 use Rattle.nml_elements.specs.declared.elements.Domain.{Domain}
-use Rattle.nml_elements.specs.declared.elements.NodeE.{NodeE}
-use Rattle.nml_elements.specs.declared.elements.PortE.{PortE}
-use Rattle.nml_elements.specs.declared.elements.LinkE.{LinkE}
-use Rattle.nml_elements.specs.declared.elements.SwitchE.{SwitchE}
-use Rattle.nml_elements.specs.declared.elements.AdaptE.{AdaptE}
-use Rattle.nml_elements.specs.declared.elements.ConvE.{ConvE}
 use Rattle.nml_elements.specs.declared.elements.Element.{Element}
 use Rattle.nml_elements.specs.declared.elements.Element.TheVariants as elements
-use Rattle.nml_elements.specs.ElementWriting.{Part, with_part, with_parts, object_of, text_part, optional_text_part, number_part, swapping_part, texts, list_part, relation_part, optional_relation_part, labels_key, labels_part, first_label, set_part, port_parts, link_parts, element_parts, element_data}
+use Rattle.nml_elements.specs.ElementWriting.{Part, with_part, with_parts, object_of, text_part, optional_text_part, number_part, swapping_part, texts, relation_part, optional_relation_part, labels_part, first_label, set_part, element_parts, element_data}
 use Rattle.nml_elements.specs.FileWriting.{entries_data, domain_parts, domain_data}
 
 -- nests at most so deep, without a float

@@ -1,8 +1,6 @@
 -- An element that is written is read again.
-use Rattle.std.proofs.Common.{◌≡◌, ℕ, List, [], ◌∷◌, Bool, true, false, IsTrue, codes, is_some, Option, Some, None, Result, Ok, Err, refl, sym, ap, ◌∙◌}
-use Rattle.serde_json.specs.Data.{Data}
+use Rattle.std.proofs.Common.{◌≡◌, ℕ, List, Bool, true, false, IsTrue, codes, is_some, Some, Ok, refl}
 use Rattle.serde_json.specs.Find.{as_object}
-use Rattle.ml_base.specs.Text.{IsIdText}
 use Rattle.nml_elements.specs.declared.elements.NodeE.{NodeE}
 use Rattle.nml_elements.specs.declared.elements.PortE.{PortE}
 use Rattle.nml_elements.specs.declared.elements.LinkE.{LinkE}
@@ -11,11 +9,11 @@ use Rattle.nml_elements.specs.declared.elements.AdaptE.{AdaptE}
 use Rattle.nml_elements.specs.declared.elements.ConvE.{ConvE}
 use Rattle.nml_elements.specs.declared.elements.Element.{Element}
 use Rattle.nml_elements.specs.declared.elements.Element.TheVariants as elements
-use Rattle.nml_elements.specs.Kept.{AreIds, MayBeId, MayBeIds, AreLabels, KeepsNode, KeepsPort, KeepsLink, KeepsSwitch, KeepsAdapt, KeepsConv, Keeps}
+use Rattle.nml_elements.specs.Kept.{KeepsNode, KeepsPort, KeepsLink, KeepsSwitch, KeepsAdapt, KeepsConv, Keeps}
 use Rattle.nml_elements.specs.Kind.{kind_of}
 use Rattle.nml_elements.specs.Labels.{fits_group}
 use Rattle.nml_elements.specs.ElementReading.{node_at, port_at, link_at, switch_at, adapt_at, conv_at, kind_at, known_at, element_at}
-use Rattle.nml_elements.specs.ElementWriting.{Part, object_of, text_part, node_parts, port_parts, link_parts, switch_parts, adapt_parts, conv_parts, element_parts, element_data}
+use Rattle.nml_elements.specs.ElementWriting.{Part, object_of, text_part, node_parts, port_parts, link_parts, switch_parts, adapt_parts, conv_parts, element_data}
 use Rattle.nml_elements.proofs.MemberWriting.{id_written, optional_id_written, relation_written, optional_relation_written, cost_written, swapping_written, labels_written}
 use Rattle.nml_elements.proofs.Parts.{looked_up, part_is}
 
