@@ -1,5 +1,5 @@
 -- What one line of a layout says, and how a text is answered.
-use Rattle.std.specs.Prelude.{◌≡◌, ℕ, List, [], ◌∷◌, Option, Some, None, Result, Ok, Err}
+use Rattle.std.specs.Prelude.{◌≡◌, ℕ, List, [], ◌∷◌, ◌++◌, Option, Some, None, Result, Ok, Err}
 use Rattle.ml_base.specs.declared.id.Id.{Id}
 use Rattle.domain_config.specs.declared.rules.Rule.{Rule}
 use Rattle.domain_config.specs.declared.rules.RuleFault.{RuleFault}
@@ -7,7 +7,11 @@ use Rattle.domain_config.specs.declared.rules.RuleFault.TheVariants as fault
 use Rattle.domain_config.specs.declared.steps.Before.{Before}
 use Rattle.domain_config.specs.declared.steps.Said.{Said}
 use Rattle.domain_config.specs.declared.steps.Said.TheVariants as seen
-use Rattle.domain_config.specs.Rules.{At, Start, In}
+use Rattle.domain_config.specs.declared.reading.Refused.{Refused}
+use Rattle.domain_config.specs.declared.reader.RuleReader.{RuleReader}
+use Rattle.domain_config.specs.Cursor.{Fails}
+use Rattle.domain_config.specs.Lines.{IsFirstMisfit}
+use Rattle.domain_config.specs.Rules.{At, Start, In, IsLayout}
 
 abbrev pub at_by : Option (List ℕ) → ℕ → At
 at_by None last = Start
@@ -31,3 +35,31 @@ abbrev pub AnswersAs : {A : Type 0} → Result A RuleFault → Result A ℕ → 
 AnswersAs (Ok a) read = read ≡ Ok a
 AnswersAs (Err (fault.Line n)) read = read ≡ Err n
 AnswersAs (Err fault.NoMemory) read = Unit {0}
+
+-- ---- reading on
+
+-- the line leads from one reader to another, and its rules stand behind those that were read
+pub record Takes (old new : RuleReader) (step : Option (At × (List Rule → List Rule))) : Type 0 where
+  pub add : List Rule → List Rule
+  pub leads : step ≡ Some (at_of new.before, add)
+  pub added : (later : List Rule) → old.rules ++ add later ≡ new.rules ++ later
+
+-- a line was taken, or it does not fit, or memory ran out
+abbrev pub TakesBy : {X : Type 0} → RuleReader → RuleReader → Result X Refused → Option (At × (List Rule → List Rule)) → Type 0
+TakesBy old new (Ok x) step = Takes old new step
+TakesBy old new (Err e) step = Fails e step
+
+-- the same for the line of this number
+abbrev pub TakesAt : {X : Type 0} → ℕ → RuleReader → RuleReader → Result X RuleFault → Option (At × (List Rule → List Rule)) → Type 0
+TakesAt n old new (Ok x) step = Takes old new step
+TakesAt n old new (Err (fault.Line m)) step = (m ≡ n) × (step ≡ None)
+TakesAt n old new (Err fault.NoMemory) step = Unit {0}
+
+-- what is read where these rules stand before
+abbrev pub behind_rules : List Rule → List Rule → List Rule
+behind_rules rules later = rules ++ later
+
+-- the line is the first one that does not fit
+abbrev pub NamesFirstMisfit : List ℕ → RuleFault → Type 0
+NamesFirstMisfit bytes (fault.Line n) = IsFirstMisfit IsLayout bytes n
+NamesFirstMisfit bytes fault.NoMemory = Unit {0}
