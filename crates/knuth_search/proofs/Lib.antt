@@ -1,0 +1,4 @@
+pub mod Heaps
+pub mod Keys
+pub mod Filed
+pub mod Deriving
