@@ -23,7 +23,7 @@ use Rattle.deriv_arena.specs.Derivation.{unfolding_of, IsOver, Rests, Extends, E
 use Rattle.deriv_arena.proofs.Segments.{form_segment}
 use Rattle.deriv_arena.proofs.Weights.{form_weight}
 use Rattle.knuth_search.specs.Derived.{Task, BeginsAt, IsDerived, IsPotWithin}
-use Rattle.knuth_search.specs.Following.{zero, stepped, IsStepOf}
+use Rattle.knuth_search.specs.Following.{zero, stepped, IsStepOf, Enters, Meets}
 
 module _ (task : Task) where
   abbrev steps : List MachineStep
@@ -52,10 +52,6 @@ module _ (task : Task) where
       cost_is e = ap cost_found e
 
   module _ (prev : Pot) (d : Deriv) (is : IsDerived task prev d) (k : StepNo) where
-    -- the step leaves where the derivation ends
-    pub keeps_there : (f : IsStepOf steps (IsFlatFrom prev.state) k) → (y : StateNo) × (system_of steps).Keeps d.last k.0 y
-    keeps_there f = (f.step.to, (f.step, record { found = f.found; is_kind = f.passes.0; leaves = f.passes.1 ∙ sym is.last; enters = refl }))
-
     pub derived_flat : (t : MachineStep) → slice_get steps k.0 ≡ Some t → t.to.0 < task.machine.states → (w : Weight) → w ≡ stepped prev.weight t → (n : Deriv) → Extends steps d k.0 n → IsOver steps n
         → IsDerived task (pot prev.root t.to w) n
     derived_flat t found to w weighs n extends over = record {
@@ -86,17 +82,15 @@ module _ (task : Task) where
       within = record { state = to; root = to };
     }
 
-    module _ (inner : Pot) (e : Deriv) (inner_is : IsDerived task inner e) (l : StepNo) (push : IsStepOf steps (IsPushFrom prev.state) k) (under : inner.root ≡ Entry push.step.to)
-        (pop : IsStepOf steps (IsPopAt inner.state push.step.frame) l) where
-      inner_first : push.step.to ≡ e.first
-      inner_first = let at : BeginsAt task (Entry push.step.to) e.first = subst (λ r. BeginsAt task r e.first) under inner_is.first in sym at.0
+    module _ (inner : Pot) (e : Deriv) (inner_is : IsDerived task inner e) (l : StepNo) (meets : Meets steps prev k inner l) where
+      abbrev push : IsStepOf steps (IsPushFrom prev.state) k
+      push = meets.enters.push
 
-      pub encloses_there : (z : StateNo) × Encloses steps d k.0 e l.0 z
-      encloses_there = (pop.step.to, record {
-        frame = push.step.frame;
-        pushes = (push.step, record { found = push.found; is_kind = push.passes.0; leaves = push.passes.1 ∙ sym is.last; enters = inner_first }, refl);
-        pops = (pop.step, record { found = pop.found; is_kind = pop.passes.0; leaves = pop.passes.1 ∙ sym inner_is.last; enters = refl }, pop.passes.2);
-      })
+      abbrev pop : IsStepOf steps (IsPopAt inner.state push.step.frame) l
+      pop = meets.pop
+
+      under : inner.root ≡ Entry push.step.to
+      under = meets.enters.under
 
       pub derived_nest : (t u : MachineStep) → slice_get steps k.0 ≡ Some t → slice_get steps l.0 ≡ Some u → u.to.0 < task.machine.states
           → (w : Weight) → w ≡ stepped (capped_total (stepped prev.weight t) inner.weight) u → (n : Deriv) → Nests steps d k.0 e l.0 n → IsOver steps n → IsDerived task (pot prev.root u.to w) n
@@ -112,3 +106,19 @@ module _ (task : Task) where
             ∙ sym weighs;
         within = record { state = to; root = is.within.root };
       }
+
+-- the steps leave where the derivations end
+pub keeps_there : (steps : List MachineStep) (prev : Pot) (d : Deriv) → d.last ≡ prev.state → (k : StepNo) → (f : IsStepOf steps (IsFlatFrom prev.state) k) → (y : StateNo) × (system_of steps).Keeps d.last k.0 y
+keeps_there steps prev d last k f = (f.step.to, (f.step, record { found = f.found; is_kind = f.passes.0; leaves = f.passes.1 ∙ sym last; enters = refl }))
+
+pub encloses_there : (task : Task) (steps : List MachineStep) (prev inner : Pot) (d e : Deriv) → d.last ≡ prev.state → e.last ≡ inner.state → BeginsAt task inner.root e.first
+    → (k l : StepNo) → (meets : Meets steps prev k inner l) → (z : StateNo) × Encloses steps d k.0 e l.0 z
+encloses_there task steps prev inner d e last inner_last begins k l meets =
+    let push : IsStepOf steps (IsPushFrom prev.state) k = meets.enters.push in
+    let pop : IsStepOf steps (IsPopAt inner.state meets.enters.push.step.frame) l = meets.pop in
+    let at : BeginsAt task (Entry meets.enters.push.step.to) e.first = subst (λ r. BeginsAt task r e.first) meets.enters.under begins in
+    (pop.step.to, record {
+      frame = push.step.frame;
+      pushes = (push.step, record { found = push.found; is_kind = push.passes.0; leaves = push.passes.1 ∙ sym last; enters = sym at.0 }, refl);
+      pops = (pop.step, record { found = pop.found; is_kind = pop.passes.0; leaves = pop.passes.1 ∙ sym inner_last; enters = refl }, pop.passes.2);
+    })

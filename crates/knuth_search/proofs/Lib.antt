@@ -2,3 +2,4 @@ pub mod Heaps
 pub mod Keys
 pub mod Filed
 pub mod Deriving
+pub mod Offering

@@ -40,12 +40,20 @@ pub record OpenedBy (steps : List MachineStep) (prev : Pot) (k : StepNo) (p : Po
   pub push : IsStepOf steps (IsPushFrom prev.state) k
   pub is : p ≡ pot (Entry push.step.to) push.step.to zero
 
--- `prev`, push `k`, `inner` and pop `l` give `p`
-pub record NestedBy (steps : List MachineStep) (prev : Pot) (k : StepNo) (inner : Pot) (l : StepNo) (p : Pot) : Type 0 where
+-- push `k` from `prev` enters the state under which `inner` stands
+pub record Enters (steps : List MachineStep) (prev : Pot) (k : StepNo) (inner : Pot) : Type 0 where
   pub push : IsStepOf steps (IsPushFrom prev.state) k
   pub under : inner.root ≡ Entry push.step.to
-  pub pop : IsStepOf steps (IsPopAt inner.state push.step.frame) l
-  pub is : p ≡ pot prev.root pop.step.to (stepped (capped_total (stepped prev.weight push.step) inner.weight) pop.step)
+
+-- and pop `l` of its frame leaves `inner`
+pub record Meets (steps : List MachineStep) (prev : Pot) (k : StepNo) (inner : Pot) (l : StepNo) : Type 0 where
+  pub enters : Enters steps prev k inner
+  pub pop : IsStepOf steps (IsPopAt inner.state enters.push.step.frame) l
+
+-- `prev`, push `k`, `inner` and pop `l` give `p`
+pub record NestedBy (steps : List MachineStep) (prev : Pot) (k : StepNo) (inner : Pot) (l : StepNo) (p : Pot) : Type 0 where
+  pub meets : Meets steps prev k inner l
+  pub is : p ≡ pot prev.root meets.pop.step.to (stepped (capped_total (stepped prev.weight meets.enters.push.step) inner.weight) meets.pop.step)
 
 -- some step of a list, or some pair of a table, gives `p`
 pub record SomeStep (R : StepNo → Pot → Type 0) (p : Pot) : Type 0 where
@@ -76,3 +84,17 @@ Fills steps table inner p = SomeStep (λ k p. SomePot table (λ prev p. Closes s
 pub record Offers (table : List Pot) (R : Pot → Type 0) (old new : List Pot) : Type 0 where
   pub kept : (p : Pot) → Contains old p → Contains new p
   pub all : (p : Pot) → R p → IsCovered table p ⊎ IsCovered new p
+
+-- the pot at a place relates to `p`
+pub record AtPlace (table : List Pot) (R : Pot → Pot → Type 0) (place : ℕ) (p : Pot) : Type 0 where
+  pub item : Pot
+  pub found : slice_get table place ≡ Some item
+  pub gives : R item p
+
+-- one of the first `n` items relates to `p`
+pub record Among {X : Type 0} (R : X → Pot → Type 0) (xs : List X) (n : ℕ) (p : Pot) : Type 0 where
+  pub number : ℕ
+  pub early : number < n
+  pub item : X
+  pub found : slice_get xs number ≡ Some item
+  pub gives : R item p
