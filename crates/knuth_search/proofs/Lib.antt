@@ -1,0 +1,5 @@
+pub mod Heaps
+pub mod Keys
+pub mod Filed
+pub mod Deriving
+pub mod Offering
