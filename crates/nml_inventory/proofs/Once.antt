@@ -78,17 +78,17 @@ with_once xs x = ap (λ b. cond b (once_behind [] xs) (once_behind [] xs ++ x �
 
 -- one more target, which is open or not
 pub open_more : (T : Topology) (targets : List Name) (i : ℕ) (x : Name) (old new : List Name) → i < length targets → x ≡ get_or targets i x → is_none (element_named T x) ≡ true → old ≡ open_names T (take i targets) → new ≡ with_name old x → new ≡ open_names T (take (i + 1) targets)
-open_more T targets i x old new h at yes is put =
+open_more T targets i x old new h at is_open is put =
     let t : Name → Bool = λ id. is_none (element_named T id) in
     put ∙ ap (λ (xs : List Name). with_name xs x) is ∙ with_once (filter t (take i targets)) x
     ∙ ap (once_behind []) (sym (filter_more t targets i x h
-    ∙ ap (λ (y : Name). filter t (take i targets) ++ cond (t y) (y ∷ []) []) (sym at) ∙ ap (λ b. filter t (take i targets) ++ cond b (x ∷ []) []) yes))
+    ∙ ap (λ (y : Name). filter t (take i targets) ++ cond (t y) (y ∷ []) []) (sym at) ∙ ap (λ b. filter t (take i targets) ++ cond b (x ∷ []) []) is_open))
 
 pub named_more : (T : Topology) (targets : List Name) (i : ℕ) (x : Name) (old : List Name) → i < length targets → x ≡ get_or targets i x → is_none (element_named T x) ≡ false → old ≡ open_names T (take i targets) → old ≡ open_names T (take (i + 1) targets)
-named_more T targets i x old h at no is =
+named_more T targets i x old h at is_named is =
     let t : Name → Bool = λ id. is_none (element_named T id) in
     is ∙ ap (once_behind []) (sym (filter_more t targets i x h
-    ∙ ap (λ (y : Name). filter t (take i targets) ++ cond (t y) (y ∷ []) []) (sym at) ∙ ap (λ b. filter t (take i targets) ++ cond b (x ∷ []) []) no
+    ∙ ap (λ (y : Name). filter t (take i targets) ++ cond (t y) (y ∷ []) []) (sym at) ∙ ap (λ b. filter t (take i targets) ++ cond b (x ∷ []) []) is_named
     ∙ append-nil (filter t (take i targets))))
 
 -- a set that holds one more key
