@@ -129,11 +129,11 @@ nodes_hold T listing i j e q at_i at_j =
     ap (list_any p) (mapped_at (λ (x : Placed). numbers_where (λ (n : Placed). names (lending_in n.element) (id_of x.element)) (elements_of T)) (elements_of T) i e [] at_i)
     ∙ any_numbers (λ (n : Placed). names (lending_in n.element) (id_of e.element)) p (λ (n : Placed). names (in_element listing n.element) q.id) 0 (elements_of T)
     (λ m n at.
-        let f : 0 + m ≡ m = omega arith in
-        let g : j ≡ 0 + j = omega arith in
-        ap p f ∙ ap (λ xs. holds xs j) (mapped_at (λ (x : Placed). numbers_where (λ (y : Port). names (in_element listing x.element) y.id) (ports T)) (elements_of T) m n [] at)
-        ∙ ap (holds (numbers_where (λ (y : Port). names (in_element listing n.element) y.id) (ports T))) g
-        ∙ held_number (λ (y : Port). names (in_element listing n.element) y.id) 0 (ports T) j q at_j)
+    let f : 0 + m ≡ m = omega arith in
+    let g : j ≡ 0 + j = omega arith in
+    ap p f ∙ ap (λ xs. holds xs j) (mapped_at (λ (x : Placed). numbers_where (λ (y : Port). names (in_element listing x.element) y.id) (ports T)) (elements_of T) m n [] at)
+    ∙ ap (holds (numbers_where (λ (y : Port). names (in_element listing n.element) y.id) (ports T))) g
+    ∙ held_number (λ (y : Port). names (in_element listing n.element) y.id) 0 (ports T) j q at_j)
 
 lends_as : (T : Topology) (listing : Listing) (i j : ℕ) (x : Placed) (e : Element) (q : Port) → slice_get (elements_of T) i ≡ Some x → x.element ≡ e → slice_get (ports T) j ≡ Some q → lends_number T (lending_nodes T) (listed_ports T listing) i e j ≡ lent_to T listing e q
 lends_as T listing i j x (element.Switching s) q at_i is at_j =
@@ -156,9 +156,9 @@ lent_are T listing =
     let row : ℕ → Placed → List Arc = λ n e. lent_at T nodes listed n e.element in
     table (has_arc (lent_arcs T nodes listed)) (λ (e : Placed) (q : Port). lent_to T listing e.element q) (ports T) 0 (elements_of T)
     (λ i e j q at_i at_j.
-        let f : 0 + i ≡ i = omega arith in
-        row_at row (λ n x. lends_number T nodes listed n x.element j) 0 (elements_of T) i j e (λ n x k. lent_at_leads T nodes listed n x.element k j) at_i
-        ∙ ap (λ n. lends_number T nodes listed n e.element j) f ∙ lends_as T listing i j e e.element q at_i refl at_j)
+    let f : 0 + i ≡ i = omega arith in
+    row_at row (λ n x. lends_number T nodes listed n x.element j) 0 (elements_of T) i j e (λ n x k. lent_at_leads T nodes listed n x.element k j) at_i
+    ∙ ap (λ n. lends_number T nodes listed n e.element j) f ∙ lends_as T listing i j e e.element q at_i refl at_j)
 
 -- Bounds of the arcs
 

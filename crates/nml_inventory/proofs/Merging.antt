@@ -235,14 +235,14 @@ merged_labels T labels number k found once m n found_at fit p class at is_class 
         let own : is_among class.labels label ≡ true = ap (λ (q : Port). is_among q.labels label) (sym is_first) ∙ parts.0 in
         from_each (λ (q : Port). Linked T class.id q.id → IsTrue (is_among q.labels label)) (ports T)
         (λ j q q_at l.
-            let e = numbered j q q_at l in
-            let f : j ≡ 0 + j = omega arith in
-            let t : ℕ → Bool = λ i. not (get_or m.classes i 0 == k) || admits_at T i label in
-            let yes : t j ≡ true = ap t f ∙ all_range t 0 (length (ports T)) parts.1 j (slice_get_within (ports T) j q q_at) in
-            let admits_it : admits q.labels label ≡ true = sym (admitted j label q q_at) ∙ sym (ap (λ b. not b || admits_at T j label) (eq-eqb (get_or m.classes j 0) k e)) ∙ yes in
-            let fits = all_at (λ (x : Port). Linked T class.id x.id → (x.encoding ≡ class.encoding) × (type_of x ≡ type_of class)) (ports T) j q
-            (all_at (λ (y : Port). AllByRecursion (λ (x : Port). Linked T y.id x.id → (x.encoding ≡ y.encoding) × (type_of x ≡ type_of y)) (ports T)) (ports T) k class fit class_at) q_at in
-            to_among q.labels class.labels label admits_it own (fits l).1)
+        let e = numbered j q q_at l in
+        let f : j ≡ 0 + j = omega arith in
+        let t : ℕ → Bool = λ i. not (get_or m.classes i 0 == k) || admits_at T i label in
+        let yes : t j ≡ true = ap t f ∙ all_range t 0 (length (ports T)) parts.1 j (slice_get_within (ports T) j q q_at) in
+        let admits_it : admits q.labels label ≡ true = sym (admitted j label q q_at) ∙ sym (ap (λ b. not b || admits_at T j label) (eq-eqb (get_or m.classes j 0) k e)) ∙ yes in
+        let fits = all_at (λ (x : Port). Linked T class.id x.id → (x.encoding ≡ class.encoding) × (type_of x ≡ type_of class)) (ports T) j q
+        (all_at (λ (y : Port). AllByRecursion (λ (x : Port). Linked T y.id x.id → (x.encoding ≡ y.encoding) × (type_of x ≡ type_of y)) (ports T)) (ports T) k class fit class_at) q_at in
+        to_among q.labels class.labels label admits_it own (fits l).1)
 
     back : (label : ℕ) → IsInClassSet T class label → IsTrue (is_among found label)
     back label all =
@@ -252,10 +252,10 @@ merged_labels T labels number k found once m n found_at fit p class at is_class 
         let each : all_admit T m.classes (length (ports T)) k label ≡ true =
         from_range (λ i. not (get_or m.classes i 0 == k) || admits_at T i label) 0 (length (ports T))
         (λ j l.
-            let f : 0 + j ≡ j = omega arith in
-            let q = some_at (ports T) j l in
-            ap (λ i. not (get_or m.classes i 0 == k) || admits_at T i label) f
-            ∙ one j q.0 q.1 (member j q.0 q.1) (get_or m.classes j 0 == k) refl) in
+        let f : 0 + j ≡ j = omega arith in
+        let q = some_at (ports T) j l in
+        ap (λ i. not (get_or m.classes i 0 == k) || admits_at T i label) f
+        ∙ one j q.0 q.1 (member j q.0 q.1) (get_or m.classes j 0 == k) refl) in
         narrow.each label ∙ and_from (is_among narrow.port.labels label) (all_admit T m.classes (length (ports T)) k label) own each
       where
         one : (j : ℕ) (q : Port) → slice_get (ports T) j ≡ Some q → (Linked T class.id q.id → is_among q.labels label ≡ true) → (b : Bool) → (get_or m.classes j 0 == k) ≡ b → (not (get_or m.classes j 0 == k) || admits_at T j label) ≡ true

@@ -194,9 +194,9 @@ module _ {A : Type 0} (key : A → Name) (ys : List A) (distinct : AreDistinct k
       eq-eqb q j (one_of_some one)
   same_number q j x y false at e same =
       ne_eqb q j (λ (s : q ≡ j).
-          let f = number_found key ys q x e in
-          let one : f.0 ≡ y = one_of_some (sym f.1 ∙ ap (slice_get ys) s ∙ at) in
-          both_ways (bytes_eq x (key y)) same ((bytes_eq-Decides x (key y)).1 (sym f.2 ∙ ap key one)))
+      let f = number_found key ys q x e in
+      let one : f.0 ≡ y = one_of_some (sym f.1 ∙ ap (slice_get ys) s ∙ at) in
+      both_ways (bytes_eq x (key y)) same ((bytes_eq-Decides x (key y)).1 (sym f.2 ∙ ap key one)))
 
   no_number : (x : Name) (y : A) (j : ℕ) (b : Bool) → slice_get ys j ≡ Some y → number_in (map key ys) x ≡ None → bytes_eq x (key y) ≡ b → false ≡ b
   no_number x y j true at e same =
@@ -257,9 +257,9 @@ module _ {A : Type 0} (key : A → Name) (ys : List A) (distinct : AreDistinct k
       ∙ ap (λ k. map (rising_leads (length xs) (map turned arcs)) (range_with_len 0 k)) count
       ∙ table (has_arc (map turned arcs)) (λ (y : A) (x : B). names (named x) (key y)) xs 0 ys
       (λ j y i x at_j at_i.
-          let f : 0 + j ≡ j = omega arith in
-          let g : i ≡ 0 + i = omega arith in
-          turned_arc arcs (0 + j) i ∙ ap (has_arc arcs i) f ∙ ap (λ k. has_arc arcs k j) g ∙ pairs_named_lead named xs i x j y at_i at_j)
+      let f : 0 + j ≡ j = omega arith in
+      let g : i ≡ 0 + i = omega arith in
+      turned_arc arcs (0 + j) i ∙ ap (has_arc arcs i) f ∙ ap (λ k. has_arc arcs k j) g ∙ pairs_named_lead named xs i x j y at_i at_j)
 
   pub listed_from : {B : Type 0} (named : B → List Name) (xs : List B) (arcs : List Arc) (n : ℕ) → arcs ≡ pairs_named (map key ys) named xs → n ≡ length xs → ComeFromBelow n arcs
   listed_from {B} named xs arcs n is count =

@@ -1,5 +1,5 @@
 -- What an inventory holds of relations.
-use Rattle.std.specs.Prelude.{◌≡◌, List, []}
+use Rattle.std.specs.Prelude.{◌≡◌, ℕ, List, []}
 use Rattle.nml_elements.specs.declared.elements.Labels.{Labels}
 use Rattle.circuit_spec.specs.Faults.{duplicate_ids}
 use Rattle.circuit_spec.specs.Network.{Topology}
@@ -7,6 +7,7 @@ use Rattle.nml_inventory.specs.declared.arcs.PortMember.TheVariants.{Sources, Si
 use Rattle.nml_inventory.specs.declared.arcs.Listing.TheVariants.{Inbound, Outbound, Provided}
 use Rattle.nml_inventory.specs.declared.relations.Relations.{Relations}
 use Rattle.nml_inventory.specs.ClassSets.{AreMerged}
+use Rattle.nml_inventory.specs.Relations.{IsClassCount, open_references}
 use Rattle.nml_inventory.specs.Tables.{lent_ports, listed_ports, naming_ports}
 
 pub record AreRelations (T : Topology) (r : Relations) : Type 0 where
@@ -20,7 +21,9 @@ pub record AreRelations (T : Topology) (r : Relations) : Type 0 where
   pub lent_outbound_are : r.lent_outbound ≡ lent_ports T Outbound
 
 -- what an inventory holds of its domains
-pub record IsInventory (T : Topology) (relations : Relations) (labels : List Labels) : Type 0 where
+pub record IsInventory (T : Topology) (relations : Relations) (labels : List Labels) (open_count class_count : ℕ) : Type 0 where
   pub once : duplicate_ids T ≡ []
   pub relations_are : AreRelations T relations
   pub labels_are : AreMerged T labels
+  pub open_are : open_count ≡ open_references T
+  pub classes_are : IsClassCount T class_count

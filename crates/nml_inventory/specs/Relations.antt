@@ -5,7 +5,7 @@
 --   AreClassLabels     the labels that all ports of a class have
 --   open_references    how many ids the relations name that no element has
 --   IsClassCount       how many classes there are
-use Rattle.std.specs.Prelude.{◌≡◌, ◌⊎◌, ◌↔◌, ℕ, suc, List, [], ◌∷◌, Bool, false, IsTrue, not, cond, Option, Some, is_none, map, filter, length, slice_get, option_map, sum_by}
+use Rattle.std.specs.Prelude.{◌≡◌, ◌⊎◌, ◌↔◌, ℕ, suc, List, [], ◌∷◌, ◌++◌, Bool, false, IsTrue, cond, Some, is_none, unwrap_or, map, filter, length, slice_get, option_map, sum_by}
 use Rattle.std.specs.List.{enumerate_from}
 use Rattle.nml_elements.specs.declared.elements.Labels.{Labels}
 use Rattle.nml_elements.specs.declared.elements.Element.{Element}
@@ -89,17 +89,28 @@ pub record AreClassLabels (T : Topology) (class : Port) (labels : Labels) : Type
   pub typed : label_type labels ≡ label_type class.labels
   pub each : (label : ℕ) → IsTrue (is_among labels label) ↔ IsInClassSet T class label
 
--- each name of the list once, where it stands last
-abbrev pub distinct : List Name → List Name
-distinct [] = []
-distinct (x ∷ xs) = cond (names xs x) (distinct xs) (x ∷ distinct xs)
+-- the names with one more, if it is not among them
+abbrev pub with_name : List Name → Name → List Name
+with_name xs x = cond (names xs x) xs (xs ++ x ∷ [])
 
--- the names of a relation that no element has
-abbrev pub open_targets : Topology → Relation → List Name
-open_targets T r = filter (λ id. is_none (element_named T id)) (distinct r.targets)
+-- the names behind those before, each where it stands first
+abbrev pub once_behind : List Name → List Name → List Name
+once_behind before [] = []
+once_behind before (x ∷ xs) = cond (names before x) (once_behind (before ++ x ∷ []) xs) (x ∷ once_behind (before ++ x ∷ []) xs)
+
+-- the names that no element has, each once
+abbrev pub open_names : Topology → List Name → List Name
+open_names T targets = once_behind [] (filter (λ id. is_none (element_named T id)) targets)
+
+abbrev pub open_count : Topology → Relation → ℕ
+open_count T r = length (open_names T r.targets)
+
+-- how many the relation at a place of an element names
+abbrev pub open_in : Topology → Element → ℕ → ℕ
+open_in T e place = unwrap_or (option_map (open_count T) (slice_get (relations_of e) place)) 0
 
 abbrev pub open_at : Topology → Element → ℕ
-open_at T e = sum_by (λ (r : Relation). length (open_targets T r)) (relations_of e)
+open_at T e = sum_by (open_count T) (relations_of e)
 
 -- the open references of all elements, each once for an element, a member and an id
 abbrev pub open_references : Topology → ℕ

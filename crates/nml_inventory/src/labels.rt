@@ -1,6 +1,7 @@
 ghost use Rattle.std.specs.Prelude.{◌≡◌, IfOk, length, take};
 ghost use Rattle.circuit_spec.specs.Network.{Port, ports};
 ghost use Rattle.nml_inventory.specs.Aliases.{AreClassNumbers};
+ghost use Rattle.nml_inventory.specs.Relations.{IsClassCount};
 ghost use Rattle.nml_inventory.specs.ClassSets.{AreMerged, AreNarrowed, HasNarrowed};
 
 use crate::numbered::Numbered;
@@ -24,11 +25,7 @@ pub fn class_labels(alloc: Global, numbered: &Numbered) -> Result<Vec<Labels>, N
 }
 
 /// The labels of each port.
-fn own_labels(
-    alloc: Global,
-    numbered: &Numbered,
-    classes: &[u32],
-) -> Result<Vec<Labels>, NoMemory>
+fn own_labels(alloc: Global, numbered: &Numbered, classes: &[u32]) -> Result<Vec<Labels>, NoMemory>
     ensures { IfOk result (λ labels. AreNarrowed numbered.now classes.now 0 labels.items) }
 {
     let _ = classes;
@@ -56,4 +53,18 @@ fn narrowed(alloc: Global, labels: &Labels, others: &Labels) -> Result<Labels, N
         Labels::Unlabelled => set.meet(alloc, set)?,
     };
     Ok(Labels::Of { labeltype, set })
+}
+
+/// How many ports are the first of their class.
+pub fn count_classes(numbered: &Numbered) -> u32
+    ensures { IsClassCount numbered.now result }
+{
+    numbered.is_merged();
+    let mut count = 0u32;
+    for port in 0..numbered.ports() {
+        if numbered.class(PortNo(port)).0 == port {
+            count += 1;
+        }
+    }
+    count
 }

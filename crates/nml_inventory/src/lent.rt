@@ -68,7 +68,14 @@ fn lend(
     match element {
         Element::Switching(s) => {
             if s.inbound.is_none() && s.outbound.is_none() {
-                lend_nodes(arcs, numbered, listed, number, &s.encoding, nodes.of(number))
+                lend_nodes(
+                    arcs,
+                    numbered,
+                    listed,
+                    number,
+                    &s.encoding,
+                    nodes.of(number),
+                )
             } else {
                 Ok(())
             }
@@ -96,7 +103,13 @@ fn lend_nodes(
     ensures { OnOk result (arcs.new.items ≡ arcs.old.items ++ lent_over numbered.now listed.now service encoding.now nodes.now) }
 {
     for node in nodes {
-        lend_ports(arcs, numbered, service, encoding, listed.of(u64::from(*node)))?;
+        lend_ports(
+            arcs,
+            numbered,
+            service,
+            encoding,
+            listed.of(u64::from(*node)),
+        )?;
     }
     Ok(())
 }

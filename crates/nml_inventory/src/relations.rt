@@ -72,11 +72,7 @@ fn naming_ports(
 }
 
 /// For each element the ports that it lists.
-fn listed_ports(
-    alloc: Global,
-    numbered: &Numbered,
-    listing: Listing,
-) -> Result<Relation, NoMemory>
+fn listed_ports(alloc: Global, numbered: &Numbered, listing: Listing) -> Result<Relation, NoMemory>
     ensures { IfOk result (λ relation. relation ≡ listed_ports numbered.now listing) }
 {
     numbered.is_merged();
