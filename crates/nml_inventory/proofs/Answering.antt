@@ -1,25 +1,19 @@
 -- What the tables of an inventory answer of one element.
-use Rattle.std.proofs.Common.{◌≡◌, ℕ, ◌+◌, ◌<◌, List, [], ◌∷◌, ◌++◌, Bool, true, false, ◌&&◌, cond, Option, Some, map, length, get_or, refl, sym, ◌∙◌, ap, subst, arith}
-use Rattle.std.specs.Prelude.{slice_get, option_map, is_none}
+use Rattle.std.proofs.Common.{◌≡◌, ℕ, List, [], ◌∷◌, ◌++◌, Bool, true, false, ◌&&◌, cond, Some, map, length, refl, ◌∙◌, ap}
+use Rattle.std.specs.Prelude.{slice_get, is_none}
 use Rattle.std.proofs.lemmas.List.{length-map}
-use Rattle.nml_elements.specs.declared.elements.SwitchE.{SwitchE}
 use Rattle.nml_elements.specs.declared.elements.Element.{Element}
 use Rattle.nml_elements.specs.declared.elements.Element.TheVariants as element
 use Rattle.circuit_spec.specs.Faults.{duplicate_ids, duplicate_topologies, is_link, is_adapting, merge_faults, wrong_kinds}
-use Rattle.circuit_spec.specs.declared.faults.MergeFault.{MergeFault}
-use Rattle.circuit_spec.specs.Network.{Name, Topology, Placed, Port, elements_of, id_of, names, port_of, ports}
-use Rattle.circuit_spec.specs.Steps.{inbound_of, outbound_of}
+use Rattle.circuit_spec.specs.Network.{Topology, Placed, Port, elements_of, id_of, names, port_of, ports}
 use Rattle.nml_inventory.specs.declared.arcs.Listing.TheVariants.{Inbound, Outbound}
 use Rattle.nml_elements.specs.declared.elements.Domain.{Domain}
 use Rattle.nml_elements.specs.declared.elements.PortE.{PortE}
 use Rattle.nml_inventory.specs.declared.arcs.PortMember.{PortMember}
 use Rattle.nml_inventory.specs.declared.arcs.PortMember.TheVariants.{Sources, Sinks, Services}
-use Rattle.nml_inventory.specs.declared.lent.Holding.{Holding}
 use Rattle.nml_inventory.specs.declared.lent.Holding.TheVariants.{Own, Lent, Neither}
 use Rattle.nml_inventory.specs.Relations.{is_source, is_sink, is_server, is_client, is_inbound, is_outbound}
 use Rattle.nml_inventory.specs.Tables.{held_by, in_entry, in_port, inbound_in, lent_to, outbound_in, provided_in}
-use Rattle.nml_inventory.proofs.ClassNumbers.{port_id}
-use Rattle.nml_inventory.proofs.Distinct.{AreDistinct}
 use Rattle.nml_inventory.proofs.Lending.{lent_inbound, lent_outbound, own_inbound, own_outbound}
 use Rattle.nml_inventory.proofs.PortNumbers.{distinct_ports}
 

@@ -1,7 +1,7 @@
 -- The ports that Nodes lend to SwitchingServices, by numbers and by ids; and what the tables say of one element.
 use Rattle.std.proofs.Common.{◌≡◌, ℕ, zero, suc, ◌+◌, ◌<◌, ◌≤◌, ◌⊎◌, ◌==◌, inl, inr, List, [], ◌∷◌, Bool, true, false, ◌&&◌, cond, Option, None, Some, map, filter, length, get_or, refl, sym, ◌∙◌, ap, subst, arith}
 use Rattle.std.specs.Prelude.{slice_get, option_map, is_none, unwrap_or}
-use Rattle.std.specs.List.{list_any, flat_map, All, enumerate_from}
+use Rattle.std.specs.List.{list_any, All, enumerate_from}
 use Rattle.std.specs.Str.{bytes_eq}
 use Rattle.std.proofs.lemmas.Bool.{eqb-true, cases_lt}
 use Rattle.std.proofs.lemmas.List.{length-map, get_or_past}
@@ -18,13 +18,13 @@ use Rattle.nml_inventory.specs.declared.arcs.Listing.{Listing}
 use Rattle.nml_inventory.specs.declared.arcs.Listing.TheVariants.{Inbound, Outbound}
 use Rattle.nml_inventory.specs.Lent.{lends}
 use Rattle.nml_inventory.specs.Relations.{AreNumbersOf, numbers_where}
-use Rattle.nml_inventory.specs.Tables.{IsTable, in_element, inbound_in, outbound_in, lending_in, lending_nodes, listed_ports, lent_arcs, lent_at, lent_by, lent_of, lent_over, lent_ports, lent_to, rows_from, takes, takes_number}
+use Rattle.nml_inventory.specs.Tables.{IsTable, in_element, inbound_in, outbound_in, lending_in, lending_nodes, listed_ports, lent_arcs, lent_at, lent_by, lent_of, lent_over, lent_ports, lent_to, takes, takes_number}
 use Rattle.nml_inventory.proofs.ClassNumbers.{port_id}
 use Rattle.nml_inventory.proofs.Distinct.{AreDistinct, has_at}
 use Rattle.nml_inventory.proofs.Gets.{one_of_some}
 use Rattle.nml_inventory.proofs.LentPorts.{ports_of_services}
 use Rattle.nml_inventory.proofs.Searches.{any_filter, any_flat, any_same}
-use Rattle.nml_inventory.proofs.Tabling.{Arc, HaveRows, any_and, any_numbers, held_number, numbers_from, row_at, rows_all, table}
+use Rattle.nml_inventory.proofs.Tabling.{Arc, any_and, any_numbers, held_number, numbers_from, row_at, rows_all, table}
 use Rattle.alias_merge.proofs.Sorting.{any_map}
 
 pub mapped_at : {A B : Type 0} (f : A → B) (xs : List A) (i : ℕ) (x : A) (d : B) → slice_get xs i ≡ Some x → get_or (map f xs) i d ≡ f x

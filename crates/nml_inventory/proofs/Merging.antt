@@ -1,8 +1,8 @@
 -- The labels of classes: what meeting the sets of their ports one after another gives.
-use Rattle.std.proofs.Common.{◌≡◌, ◌≢◌, ◌⊎◌, ℕ, zero, suc, ◌+◌, ◌<◌, ◌==◌, inl, inr, List, [], ◌∷◌, ◌++◌, Bool, true, false, ◌&&◌, ◌||◌, not, Option, None, Some, set, length, get_or, refl, sym, ◌∙◌, ap, subst, arith}
-use Rattle.std.specs.Prelude.{slice_get, option_map, unwrap_or, IsTrue, ◌↔◌}
+use Rattle.std.proofs.Common.{◌≡◌, ◌≢◌, ◌⊎◌, ℕ, zero, suc, ◌+◌, ◌<◌, ◌==◌, inl, inr, List, [], ◌∷◌, ◌++◌, Bool, true, false, ◌&&◌, ◌||◌, not, Option, Some, set, length, get_or, refl, sym, ◌∙◌, ap, subst, arith}
+use Rattle.std.specs.Prelude.{slice_get, option_map, unwrap_or, IsTrue}
 use Rattle.std.specs.List.{list_all, range_with_len, AllByRecursion}
-use Rattle.std.proofs.lemmas.Bool.{cases_Bool, cases_eq, eq-eqb, eqb-true, ne_eqb, and_parts, and_from}
+use Rattle.std.proofs.lemmas.Bool.{eq-eqb, eqb-true, ne_eqb, and_parts, and_from}
 use Rattle.std.proofs.lemmas.List.{length-set}
 use Rattle.std.proofs.lemmas.List.Folds.{list_all-append}
 use Rattle.std.proofs.lemmas.Option.{slice_get_within}
@@ -11,14 +11,14 @@ use Rattle.nml_elements.specs.declared.elements.Labels.TheVariants.{Unlabelled, 
 use Rattle.nml_elements.specs.Labels.{is_among}
 use Rattle.label_sets.specs.Ranges.{has}
 use Rattle.circuit_spec.specs.Faults.{ClassesFit, duplicate_ids, type_of}
-use Rattle.circuit_spec.specs.Network.{Name, Topology, Port, First, IsClass, IsInClassSet, Linked, label_type, ports}
+use Rattle.circuit_spec.specs.Network.{Topology, Port, IsClass, IsInClassSet, Linked, label_type, ports}
 use Rattle.circuit_spec.proofs.Among.{among_first}
 use Rattle.circuit_spec.proofs.ClassLemmas.{First-unique, class_of_itself, class_of_linked, linked_back, linked_to_itself}
-use Rattle.nml_inventory.specs.Aliases.{AreClassNumbers, IsClassNumber}
+use Rattle.nml_inventory.specs.Aliases.{IsClassNumber}
 use Rattle.nml_inventory.specs.ClassSets.{admits, admits_at, all_admit, AreMerged, AreNarrowed, HasNarrowed, IsNarrowed}
 use Rattle.nml_inventory.specs.Relations.{AreClassLabels}
 use Rattle.nml_inventory.proofs.ClassNumbers.{port_id}
-use Rattle.nml_inventory.proofs.Distinct.{AreDistinct, same_place}
+use Rattle.nml_inventory.proofs.Distinct.{same_place}
 use Rattle.nml_inventory.proofs.Gets.{one_of_some}
 use Rattle.nml_inventory.proofs.PortNumbers.{distinct_ports, some_at}
 

@@ -1,5 +1,5 @@
 -- Open references: names counted once.
-use Rattle.std.proofs.Common.{◌≡◌, ℕ, ◌+◌, ◌<◌, List, [], ◌∷◌, ◌++◌, Bool, true, false, ◌||◌, cond, Option, None, Some, map, filter, take, length, get_or, refl, sym, ◌∙◌, ap, subst, arith, append-nil, append_assoc}
+use Rattle.std.proofs.Common.{◌≡◌, ℕ, ◌+◌, ◌<◌, List, [], ◌∷◌, ◌++◌, Bool, true, false, ◌||◌, cond, Option, None, Some, map, filter, take, length, get_or, refl, sym, ◌∙◌, ap, arith, append-nil, append_assoc}
 use Rattle.std.specs.Prelude.{slice_get, is_none, option_map, unwrap_or, sum_by}
 use Rattle.std.specs.List.{list_any}
 use Rattle.std.specs.Str.{bytes_eq}
@@ -15,11 +15,10 @@ use Rattle.nml_elements.specs.declared.elements.Element.TheVariants as element
 use Rattle.circuit_spec.specs.Faults.{Relation, relations_of}
 use Rattle.circuit_spec.specs.Network.{Name, Topology, Placed, element_named, elements_of, id_of, names}
 use Rattle.nml_inventory.specs.Numbers.{element_number}
-use Rattle.nml_inventory.specs.Relations.{once_behind, open_at, open_count, open_in, open_names, with_name}
+use Rattle.nml_inventory.specs.Relations.{once_behind, open_count, open_in, open_names, with_name}
 use Rattle.nml_inventory.proofs.First.{none_at}
 use Rattle.nml_inventory.proofs.Members.{named_number}
 use Rattle.nml_inventory.proofs.PortNumbers.{number_found}
-use Rattle.nml_inventory.proofs.Searches.{any_same}
 
 -- Names once
 

@@ -1,6 +1,6 @@
 -- Groups copied one after another into the spans of one list.
-use Rattle.std.proofs.Common.{◌≡◌, ℕ, ◌+◌, ◌-◌, ◌<◌, ◌≤◌, List, [], ◌∷◌, ◌++◌, map, take, drop, length, get_or, refl, sym, ◌∙◌, ap, arith, append-nil, append_assoc, length-append}
-use Rattle.std.proofs.lemmas.List.{drop-append-le, take-append-le, take_all, take_more, drop-map, take-map, length-drop, map-append, length-map}
+use Rattle.std.proofs.Common.{◌≡◌, ℕ, ◌+◌, ◌-◌, ◌<◌, ◌≤◌, List, [], ◌∷◌, ◌++◌, map, take, drop, length, get_or, refl, sym, ◌∙◌, ap, arith, length-append}
+use Rattle.std.proofs.lemmas.List.{drop-append-le, take-append-le, take_all, take_more, drop-map, take-map, length-drop, length-map}
 use Rattle.ml_base.specs.declared.numbers.PortNo.{PortNo}
 use Rattle.alias_merge.specs.Groups.{AreSpans, groups_at}
 

@@ -1,9 +1,9 @@
 -- Tables of relations: what arcs between numbers say of the items that stand there.
-use Rattle.std.proofs.Common.{◌≡◌, ℕ, zero, suc, ◌+◌, ◌<◌, ◌≤◌, ◌==◌, List, [], ◌∷◌, ◌++◌, Bool, true, false, ◌&&◌, ◌||◌, cond, Option, None, Some, map, filter, take, length, refl, sym, ◌∙◌, ap, subst, arith, append-nil, append_assoc}
+use Rattle.std.proofs.Common.{◌≡◌, ℕ, zero, suc, ◌+◌, ◌<◌, ◌==◌, List, [], ◌∷◌, ◌++◌, Bool, true, false, ◌&&◌, ◌||◌, cond, Option, None, Some, map, filter, take, length, refl, sym, ◌∙◌, ap, subst, arith, append-nil, append_assoc}
 use Rattle.std.specs.Prelude.{slice_get, option_map}
-use Rattle.std.specs.List.{list_any, range_with_len, enumerate_from, filter_map, cons_option, All}
+use Rattle.std.specs.List.{list_any, range_with_len, enumerate_from, cons_option, All}
 use Rattle.std.specs.Str.{bytes_eq}
-use Rattle.std.proofs.lemmas.Bool.{cases_eq, eq-eqb, eqb-true, ne_eqb, both_ways}
+use Rattle.std.proofs.lemmas.Bool.{eq-eqb, ne_eqb, both_ways}
 use Rattle.std.proofs.lemmas.List.{take_more, length-take-le, length-map}
 use Rattle.std.proofs.lemmas.List.Elements.{All-append, All-cons, All-map, All-nil}
 use Rattle.std.proofs.lemmas.List.Folds.{list_any-append}
@@ -21,7 +21,7 @@ use Rattle.nml_inventory.proofs.Distinct.{AreDistinct}
 use Rattle.nml_inventory.proofs.Gets.{one_of_some}
 use Rattle.nml_inventory.proofs.Noting.{number_within}
 use Rattle.nml_inventory.proofs.PortNumbers.{number_by, number_found}
-use Rattle.nml_inventory.proofs.Searches.{any_filter, any_filter_map, any_same, passes}
+use Rattle.nml_inventory.proofs.Searches.{any_filter_map, any_same, passes}
 
 abbrev pub Arc : Type 0
 Arc = ℕ × ℕ

@@ -1,5 +1,5 @@
 -- The labels of classes while the sets of their ports are met one after another.
-use Rattle.std.specs.Prelude.{◌≡◌, ℕ, ◌<◌, ◌==◌, List, Bool, true, ◌&&◌, ◌||◌, not, Some, unwrap_or, option_map, length, slice_get, slice_index}
+use Rattle.std.specs.Prelude.{◌≡◌, ℕ, ◌==◌, List, Bool, true, ◌&&◌, ◌||◌, not, Some, unwrap_or, option_map, length, slice_get, slice_index}
 use Rattle.std.specs.List.{list_all, range_with_len}
 use Rattle.nml_elements.specs.declared.elements.Labels.{Labels}
 use Rattle.nml_elements.specs.declared.elements.Labels.TheVariants.{Unlabelled, Of}

@@ -1,7 +1,5 @@
-use Rattle.std.proofs.Common.{◌≡◌, ◌<◌, ◌∙◌, ℕ, Some, refl, sym, ap, length, slice_index, arith}
-use Rattle.std.specs.Prelude.{slice_get}
+use Rattle.std.proofs.Common.{◌<◌, ℕ, refl, length, slice_index, arith}
 use Rattle.std.proofs.lemmas.Option.{slice_get_read, slice_get_within}
-use Rattle.nml_elements.specs.declared.elements.Labels.{Labels}
 use Rattle.circuit_spec.specs.Network.{port_of, ports}
 use Rattle.nml_inventory.proofs.Merging.{narrowed_more}
 use Rattle.nml_inventory.proofs.labels.class_labels.Goals as goal

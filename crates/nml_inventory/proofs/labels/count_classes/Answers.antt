@@ -1,4 +1,4 @@
-use Rattle.std.proofs.Common.{List, ◌+◌, ◌≤◌, sym, subst, take, arith}
+use Rattle.std.proofs.Common.{List, subst, arith}
 use Rattle.std.proofs.lemmas.List.{take_all}
 use Rattle.circuit_spec.specs.Network.{IsClass, Port, ports}
 use Rattle.nml_inventory.specs.Relations.{IsCount}

@@ -1,6 +1,6 @@
-use Rattle.std.proofs.Common.{◌∙◌, refl, sym, ap}
+use Rattle.std.proofs.Common.{refl}
 use Rattle.circuit_spec.specs.Network.{port_of}
-use Rattle.nml_inventory.proofs.Merging.{all_own, own_more}
+use Rattle.nml_inventory.proofs.Merging.{own_more}
 use Rattle.nml_inventory.proofs.labels.own_labels.Goals as goal
 
 pub loop-port-preserved : goal.loop-port-preserved

@@ -1,4 +1,4 @@
-use Rattle.std.proofs.Common.{◌≡◌, ◌<◌, length, arith}
+use Rattle.std.proofs.Common.{◌<◌, length, arith}
 use Rattle.std.proofs.lemmas.List.{get_or-map, length-map}
 use Rattle.nml_inventory.proofs.Spans.{number_of}
 use Rattle.nml_inventory.proofs.lent.lend_ports.Goals as goal

@@ -1,4 +1,4 @@
-use Rattle.std.proofs.Common.{◌≡◌, ◌∙◌, ℕ, List, ap, length, subst, sym}
+use Rattle.std.proofs.Common.{◌≡◌, ◌∙◌, List, ap, length, subst, sym}
 use Rattle.alias_merge.specs.Groups.{ComeFromBelow}
 use Rattle.alias_merge.specs.Rising.{LeadBelow}
 use Rattle.alias_merge.proofs.Sorting.{rising_long}

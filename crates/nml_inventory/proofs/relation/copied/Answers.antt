@@ -1,4 +1,4 @@
-use Rattle.std.proofs.Common.{◌≡◌, ◌∙◌, ◌++◌, [], sym, ap, map, get_or, length, arith}
+use Rattle.std.proofs.Common.{◌∙◌, ◌++◌, ap, map, arith}
 use Rattle.nml_inventory.proofs.Spans.{copied_more, number_of}
 use Rattle.nml_inventory.proofs.relation.copied.Goals as goal
 

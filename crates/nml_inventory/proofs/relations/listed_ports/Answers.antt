@@ -1,15 +1,12 @@
-use Rattle.std.proofs.Common.{◌≡◌, ◌∙◌, ℕ, List, [], ap, map, length, subst, sym}
+use Rattle.std.proofs.Common.{◌≡◌, ◌∙◌, ℕ, List, ap, map, length, subst}
 use Rattle.std.specs.Prelude.{IfOk}
-use Rattle.std.specs.List.{range_with_len}
-use Rattle.alias_merge.specs.Rising.{turned}
 use Rattle.alias_merge.proofs.Sorting.{rising_long}
-use Rattle.circuit_spec.specs.Network.{Name, Placed, Port, elements_of, id_of, ports}
-use Rattle.nml_inventory.specs.declared.arcs.Listing.TheVariants.{Lending}
-use Rattle.nml_inventory.specs.Tables.{in_element, in_port, lending_in, pairs_named}
+use Rattle.circuit_spec.specs.Network.{Name, Placed, elements_of, ports}
+use Rattle.nml_inventory.specs.Tables.{in_element, pairs_named}
 use Rattle.nml_inventory.proofs.ClassNumbers.{port_id}
 use Rattle.nml_inventory.proofs.Answering.{merged_ids}
-use Rattle.nml_inventory.proofs.PortNumbers.{distinct_elements, distinct_ports}
-use Rattle.nml_inventory.proofs.Tabling.{Arc, naming_from, naming_to, naming_rows, listed_from, listed_to, listed_rows}
+use Rattle.nml_inventory.proofs.PortNumbers.{distinct_ports}
+use Rattle.nml_inventory.proofs.Tabling.{listed_from, listed_to, listed_rows}
 use Rattle.nml_inventory.proofs.relations.listed_ports.Goals as goal
 
 pub rising_groups-requires-clause-from : goal.rising_groups-requires-clause-from

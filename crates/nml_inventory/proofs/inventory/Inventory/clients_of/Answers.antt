@@ -1,11 +1,9 @@
-use Rattle.std.proofs.Common.{◌≡◌, ◌∙◌, [], true, refl, sym, ap, subst, map}
+use Rattle.std.proofs.Common.{◌∙◌, [], refl, sym, ap, subst, map}
 use Rattle.nml_elements.specs.declared.elements.Element.{Element}
-use Rattle.ml_base.specs.declared.numbers.PortNo.{PortNo}
-use Rattle.circuit_spec.specs.Network.{Topology, Placed, Port, id_of, names}
-use Rattle.nml_inventory.specs.declared.arcs.PortMember.TheVariants.{Sources, Sinks, Services}
-use Rattle.nml_inventory.specs.declared.arcs.Listing.TheVariants.{Inbound, Outbound, Provided}
-use Rattle.nml_inventory.specs.Relations.{AreNumbersOf, is_source, is_sink, is_server, is_client, is_inbound, is_outbound}
-use Rattle.nml_inventory.specs.Tables.{in_element, in_port, inbound_in, lent_to, outbound_in, provided_in}
+use Rattle.circuit_spec.specs.Network.{Topology, Placed, Port, names}
+use Rattle.nml_inventory.specs.declared.arcs.Listing.TheVariants.{Provided}
+use Rattle.nml_inventory.specs.Relations.{AreNumbersOf, is_client}
+use Rattle.nml_inventory.specs.Tables.{in_element, provided_in}
 use Rattle.nml_inventory.proofs.Lending.{related, unrelated}
 use Rattle.nml_inventory.proofs.Spans.{number_of}
 use Rattle.nml_inventory.proofs.Answering.{client_by, no_client}

@@ -1,6 +1,6 @@
-use Rattle.std.proofs.Common.{◌≡◌, ◌∙◌, List, ℕ, ap, subst, sym, length}
+use Rattle.std.proofs.Common.{◌∙◌, List, ℕ, ap, subst, sym, length}
 use Rattle.circuit_spec.specs.Network.{Placed, Port, elements_of, id_of, names, ports}
-use Rattle.nml_inventory.specs.declared.arcs.Listing.TheVariants.{Inbound, Outbound, Lending}
+use Rattle.nml_inventory.specs.declared.arcs.Listing.TheVariants.{Inbound, Outbound}
 use Rattle.nml_inventory.specs.Tables.{IsTable, in_element, lent_by, lending_in, lending_nodes}
 use Rattle.nml_inventory.proofs.Lending.{is_table, lent_are}
 use Rattle.nml_inventory.proofs.relations.Relations.new.Goals as goal
