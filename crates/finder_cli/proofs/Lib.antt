@@ -1,0 +1,12 @@
+pub mod Fronts
+pub mod Steps
+pub mod Stores
+pub mod Numbered
+pub mod Spots
+pub mod Few
+pub mod Passing
+pub mod Settled
+pub mod Sentences
+pub mod Circuits
+pub mod Causes
+pub mod Counting

@@ -1,0 +1,148 @@
+-- The sentences on a run follow from what the words may be answered.
+use Rattle.std.proofs.Common.{◌≡◌, ◌≢◌, ◌∙◌, ◌↔◌, sym, refl, ap, subst, ℕ, ◌+◌, ◌<◌, ◌≤◌, ◌^◌, List, [], ◌∷◌, ◌++◌, Bool, Option, Some, None, IsSome, ◌⊎◌, inl, inr, arith}
+use Rattle.std.specs.Prelude.{Contains}
+use Rattle.std.proofs.lemmas.Bool.{false≢true}
+use Rattle.std.specs.Io.KnownBytes.{Appends}
+use Rattle.ml_base.specs.Weight.{FullWeight, IsAtMost}
+use Rattle.io_edges.specs.Counts.{Rose}
+use Rattle.io_edges.specs.Reads.{Store, Contents}
+use Rattle.circuit_spec.specs.declared.hops.Hop.{Hop}
+use Rattle.circuit_spec.specs.declared.hops.Outcome.{Outcome}
+use Rattle.circuit_spec.specs.declared.hops.Outcome.TheVariants.{Found, NoWalk, Past, Long}
+use Rattle.circuit_spec.specs.declared.hops.Request.{Request}
+use Rattle.circuit_spec.specs.Faults.{IsAccepted, IsKnown}
+use Rattle.circuit_spec.specs.Network.{Topology}
+use Rattle.circuit_spec.specs.Steps.{IsOutcome, Walk, weight_of}
+use Rattle.circuit_spec.proofs.OneOutcome.{one_outcome}
+use Rattle.finder_core.specs.Built.{IsBuilt}
+use Rattle.finder_core.specs.Solved.{IsListed}
+use Rattle.finder_cli.specs.declared.reply.Reply.{Reply}
+use Rattle.finder_cli.specs.declared.reply.Status.{Status}
+use Rattle.finder_cli.specs.declared.reply.Status.TheVariants as statuses
+use Rattle.finder_cli.specs.declared.words.Command.{Command}
+use Rattle.finder_cli.specs.declared.words.Command.TheVariants.{Find, Survey}
+use Rattle.finder_cli.specs.Accepting.{IsRejected, IfAccepted}
+use Rattle.finder_cli.specs.Answers.{CommandAnswers, Answers}
+use Rattle.finder_cli.specs.Finding.{IsFound, IsFoundIn}
+use Rattle.finder_cli.specs.Printed.{PrintsWhole}
+use Rattle.finder_cli.specs.Reading.{OverFiles, AreDomains, file_words}
+use Rattle.finder_cli.specs.Sentences.{Tells, Ran, Asks, AsksBuilt, AsksKnown, FindsNone, FindsPast, FindsLong, FindsUnknown, FindsUnbuilt}
+use Rattle.finder_cli.specs.Status.{code, status_of}
+use Rattle.finder_cli.specs.Words.{Words, command_of}
+use Rattle.finder_cli.proofs.Passing.{over-domains}
+use Rattle.finder_cli.proofs.Settled.{rejected-apart, refusal-apart}
+
+abbrev Told : Type 0
+Told = List ℕ → Option (List ℕ)
+
+-- a run that printed a reply whole
+pub record IsDone (words : Words) (before after : Store) (status : ℕ) (reply : Reply) : Type 0 where
+  pub may : Answers words before after reply
+  pub code : status ≡ code reply.status
+
+-- ---- the reply to a search over domains of told files
+
+told-found : (contents : Contents) (before after : Store) (words : Words) (r : Request) (T : Topology) (reply : Reply) → before.contents ≡ contents → IsSome contents → ¬ Rose before.faults after.faults
+    → Asks words before r T → Answers words before after reply → IfAccepted (IsFound r) T reply
+told-found None before after words r T reply e told calm asks may = absurd (false≢true told)
+told-found (Some contents) before after words r T reply e told calm asks may =
+    let found : CommandAnswers (Some (Find r asks.names asks.potentials)) before after reply = subst (λ (c : Option Command). CommandAnswers c before after reply) asks.command may in
+    over-domains before after contents (file_words 1 asks.names) (IfAccepted (IsFound r)) T reply e calm asks.domains found
+
+pub asked : (before after : Store) (words : Words) (r : Request) (T : Topology) (reply : Reply) → Tells before after → Asks words before r T → Answers words before after reply → IfAccepted (IsFound r) T reply
+asked before after words r T reply tells asks may = told-found before.contents before after words r T reply refl tells.0 tells.1 asks may
+
+after-accepted : (r : Request) (T : Topology) (reply : Reply) → IsAccepted T → IfAccepted (IsFound r) T reply → IsFound r T reply
+after-accepted r T reply accepted (inl p) = absurd (rejected-apart T reply p accepted)
+after-accepted r T reply accepted (inr p) = p.1
+
+after-built : (r : Request) (T : Topology) (reply : Reply) → IsBuilt T → IsFound r T reply → IsFoundIn r T reply
+after-built r T reply built (inl p) = absurd (p.uncovered built)
+after-built r T reply built (inr p) = p.1
+
+pub found-in : (before after : Store) (words : Words) (r : Request) (T : Topology) (reply : Reply) → Tells before after → AsksBuilt words before r T → Answers words before after reply → IsFoundIn r T reply
+found-in before after words r T reply tells asks may = after-built r T reply asks.built (after-accepted r T reply asks.accepted (asked before after words r T reply tells asks.asks may))
+
+-- the outcome that a reply to a known request tells
+pub record Outcomes (T : Topology) (r : Request) (status : ℕ) : Type 0 where
+  pub outcome : Outcome
+  pub is : IsOutcome T r outcome
+  pub told : status ≡ code (status_of outcome)
+
+answered-outcome : (T : Topology) (r : Request) (status : ℕ) (reply : Reply) → status ≡ code reply.status → IsKnown T r → IsFoundIn r T reply → Outcomes T r status
+answered-outcome T r status reply e known (inl p) = absurd (refusal-apart T r p.fault p.told p.cause known)
+answered-outcome T r status reply e known (inr p) = record { outcome = p.outcome; is = p.is_outcome; told = e ∙ ap (λ (a : Reply). code a.status) p.is }
+
+pub outcomes : (before after : Store) (words : Words) (r : Request) (T : Topology) (status : ℕ) (reply : Reply) → Tells before after → AsksKnown words before r T → IsDone words before after status reply → Outcomes T r status
+outcomes before after words r T status reply tells asks done = answered-outcome T r status reply done.code asks.known (found-in before after words r T reply tells asks.asks done.may)
+
+-- ---- 1, 7 and 8
+
+none-exact : (T : Topology) (r : Request) (o : Outcome) (status : ℕ) → IsOutcome T r o → status ≡ code (status_of o) → (status ≡ 1) ↔ ((hops : List Hop) → ¬ Walk T r hops)
+none-exact T r NoWalk status is e = (λ one. is, λ none. e)
+none-exact T r Past status is e = (λ one. absurd (omega arith), λ none. absurd (none is.0.0 is.0.1))
+none-exact T r (Found cost hops) status is e = (λ one. absurd (omega arith), λ none. absurd (none is.0.hops is.0.walk))
+none-exact T r (Long cost hops) status is e = (λ one. absurd (omega arith), λ none. absurd (none is.1.hops is.1.walk))
+
+past-exact : (T : Topology) (r : Request) (o : Outcome) (status : ℕ) → IsOutcome T r o → status ≡ code (status_of o) → (status ≡ 7) ↔ IsOutcome T r Past
+past-exact T r Past status is e = (λ seven. is, λ past. e)
+past-exact T r NoWalk status is e = (λ seven. absurd (omega arith), λ past. absurd (is past.0.0 past.0.1))
+past-exact T r (Found cost hops) status is e = (λ seven. absurd (omega arith), λ past. let same : Found cost hops ≡ Past = one_outcome T r (Found cost hops) Past is past in absurd cc)
+past-exact T r (Long cost hops) status is e = (λ seven. absurd (omega arith), λ past. let same : Long cost hops ≡ Past = one_outcome T r (Long cost hops) Past is past in absurd cc)
+
+abbrev IsLong : Topology → Request → Type 0
+IsLong T r = (cost hops : ℕ) × IsOutcome T r (Long cost hops)
+
+long-exact : (T : Topology) (r : Request) (o : Outcome) (status : ℕ) → IsOutcome T r o → status ≡ code (status_of o) → (status ≡ 8) ↔ IsLong T r
+long-exact T r (Long cost hops) status is e = (λ eight. (cost, hops, is), λ long. e)
+long-exact T r NoWalk status is e = (λ eight. absurd (omega arith), λ long. let same : NoWalk ≡ Long long.0 long.1 = one_outcome T r NoWalk (Long long.0 long.1) is long.2 in absurd cc)
+long-exact T r Past status is e = (λ eight. absurd (omega arith), λ long. let same : Past ≡ Long long.0 long.1 = one_outcome T r Past (Long long.0 long.1) is long.2 in absurd cc)
+long-exact T r (Found cost hops) status is e = (λ eight. absurd (omega arith), λ long. let same : Found cost hops ≡ Long long.0 long.1 = one_outcome T r (Found cost hops) (Long long.0 long.1) is long.2 in absurd cc)
+
+pub says-none : (words : Words) (before after : Store) (status : ℕ) (reply : Reply) → (Ran status → IsDone words before after status reply) → FindsNone words before after status
+says-none words before after status reply done = λ ran tells r T asks.
+    let o : Outcomes T r status = outcomes before after words r T status reply tells asks (done ran) in none-exact T r o.outcome status o.is o.told
+
+pub says-past : (words : Words) (before after : Store) (status : ℕ) (reply : Reply) → (Ran status → IsDone words before after status reply) → FindsPast words before after status
+says-past words before after status reply done = λ ran tells r T asks.
+    let o : Outcomes T r status = outcomes before after words r T status reply tells asks (done ran) in past-exact T r o.outcome status o.is o.told
+
+pub says-long : (words : Words) (before after : Store) (status : ℕ) (reply : Reply) → (Ran status → IsDone words before after status reply) → FindsLong words before after status
+says-long words before after status reply done = λ ran tells r T asks.
+    let o : Outcomes T r status = outcomes before after words r T status reply tells asks (done ran) in long-exact T r o.outcome status o.is o.told
+
+-- ---- 4 and 12
+
+outcome-known : (o : Outcome) (status : ℕ) → status ≡ code (status_of o) → status ≢ 4
+outcome-known NoWalk status e = λ four. absurd (omega arith)
+outcome-known Past status e = λ four. absurd (omega arith)
+outcome-known (Found cost hops) status e = λ four. absurd (omega arith)
+outcome-known (Long cost hops) status e = λ four. absurd (omega arith)
+
+outcome-built : (o : Outcome) (status : ℕ) → status ≡ code (status_of o) → status ≢ 12
+outcome-built NoWalk status e = λ twelve. absurd (omega arith)
+outcome-built Past status e = λ twelve. absurd (omega arith)
+outcome-built (Found cost hops) status e = λ twelve. absurd (omega arith)
+outcome-built (Long cost hops) status e = λ twelve. absurd (omega arith)
+
+abbrev code_of : Reply → ℕ
+code_of a = code a.status
+
+unknown-exact : (T : Topology) (r : Request) (status : ℕ) (reply : Reply) → status ≡ code reply.status → IsFoundIn r T reply → (status ≡ 4) ↔ (¬ IsKnown T r)
+unknown-exact T r status reply e (inl p) = (λ four known. refusal-apart T r p.fault p.told p.cause known, λ unknown. e ∙ ap code_of p.is)
+unknown-exact T r status reply e (inr p) = (λ four. absurd (outcome-known p.outcome status (e ∙ ap code_of p.is) four), λ unknown. absurd (unknown p.known))
+
+pub says-unknown : (words : Words) (before after : Store) (status : ℕ) (reply : Reply) → (Ran status → IsDone words before after status reply) → FindsUnknown words before after status
+says-unknown words before after status reply done = λ ran tells r T asks. unknown-exact T r status reply (done ran).code (found-in before after words r T reply tells asks (done ran).may)
+
+found-built : (T : Topology) (r : Request) (status : ℕ) (reply : Reply) → status ≡ code reply.status → IsFoundIn r T reply → status ≢ 12
+found-built T r status reply e (inl p) = λ twelve. let four : status ≡ 4 = e ∙ ap code_of p.is in absurd (omega arith)
+found-built T r status reply e (inr p) = outcome-built p.outcome status (e ∙ ap code_of p.is)
+
+unbuilt-exact : (T : Topology) (r : Request) (status : ℕ) (reply : Reply) → status ≡ code reply.status → IsFound r T reply → (status ≡ 12) ↔ (¬ IsBuilt T)
+unbuilt-exact T r status reply e (inl p) = (λ twelve. p.uncovered, λ unbuilt. e ∙ ap code_of p.is)
+unbuilt-exact T r status reply e (inr p) = (λ twelve. absurd (found-built T r status reply e p.1 twelve), λ unbuilt. absurd (unbuilt p.0))
+
+pub says-unbuilt : (words : Words) (before after : Store) (status : ℕ) (reply : Reply) → (Ran status → IsDone words before after status reply) → FindsUnbuilt words before after status
+says-unbuilt words before after status reply done = λ ran tells r T asks accepted.
+    unbuilt-exact T r status reply (done ran).code (after-accepted r T reply accepted (asked before after words r T reply tells asks (done ran).may))

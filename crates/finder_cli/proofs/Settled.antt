@@ -1,0 +1,106 @@
+-- Over told contents, where reading has not failed, all replies that may be have one status.
+use Rattle.std.proofs.Common.{ℕ, ◌≡◌, ◌≢◌, ◌∙◌, sym, refl, ap, subst, List, [], ◌∷◌, Option, Some, None, IsSome, ◌⊎◌, inl, inr}
+use Rattle.std.proofs.lemmas.Bool.{false≢true}
+use Rattle.ml_base.specs.declared.numbers.Wish.{Wish}
+use Rattle.ml_base.specs.declared.numbers.Wish.TheVariants.{Any, Value}
+use Rattle.io_edges.specs.Counts.{Rose}
+use Rattle.io_edges.specs.Reads.{Store, Contents}
+use Rattle.nml_elements.specs.declared.elements.Domain.{Domain}
+use Rattle.circuit_spec.specs.declared.faults.MergeFault.{MergeFault}
+use Rattle.circuit_spec.specs.declared.hops.Request.{Request}
+use Rattle.circuit_spec.specs.Faults.{IsAccepted, IsFirstMergeFault, IsKnown, IsKnownEnd, merge_faults}
+use Rattle.circuit_spec.specs.Network.{Name, Topology}
+use Rattle.circuit_spec.proofs.OneFault.{sound_has_none}
+use Rattle.circuit_spec.proofs.OneOutcome.{one_outcome}
+use Rattle.finder_core.specs.Solved.{IsRefusal}
+use Rattle.finder_core.specs.declared.faults.SolveFault.{SolveFault}
+use Rattle.finder_core.specs.declared.faults.SolveFault.TheVariants as solving
+use Rattle.finder_cli.specs.declared.reply.Reply.{Reply}
+use Rattle.finder_cli.specs.declared.words.Command.{Command}
+use Rattle.finder_cli.specs.declared.words.Command.TheVariants.{Find, Survey}
+use Rattle.finder_cli.specs.Accepting.{IsRejected, IfAccepted}
+use Rattle.finder_cli.specs.Answers.{files_named, Replies, CommandAnswers, Answers}
+use Rattle.finder_cli.specs.Finding.{IsFound, IsFoundIn}
+use Rattle.finder_cli.specs.Status.{status_of}
+use Rattle.finder_cli.specs.Surveying.{IsSurvey}
+use Rattle.finder_cli.specs.Words.{Words, command_of}
+use Rattle.finder_cli.proofs.Passing.{SameStatus, by-lines, over-files}
+
+-- ---- accepted topologies
+
+first-none : (faults rest : List MergeFault) (fault : MergeFault) → faults ≡ fault ∷ rest → faults ≡ [] → ⊥
+first-none faults rest fault p q = let e : fault ∷ rest ≡ [] = sym p ∙ q in cc
+
+pub rejected-apart : (T : Topology) (a : Reply) → IsRejected T a → IsAccepted T → ⊥
+rejected-apart T a (inl p) accepted = first-none (merge_faults T) p.first.0 p.fault p.first.1 accepted.merged
+rejected-apart T a (inr p) accepted = sound_has_none T p.fault accepted.sound p.first
+
+rejected-one : (T : Topology) (a b : Reply) → IsRejected T a → IsRejected T b → SameStatus a b
+rejected-one T a b (inl p) (inl q) = by-lines a b _ _ p.is q.is refl
+rejected-one T a b (inl p) (inr q) = by-lines a b _ _ p.is q.is refl
+rejected-one T a b (inr p) (inl q) = by-lines a b _ _ p.is q.is refl
+rejected-one T a b (inr p) (inr q) = by-lines a b _ _ p.is q.is refl
+
+accepted-one : (Next : Topology → Reply → Type 0) (T : Topology) (a b : Reply) → (Next T a → Next T b → SameStatus a b) → IfAccepted Next T a → IfAccepted Next T b → SameStatus a b
+accepted-one Next T a b next (inl p) (inl q) = rejected-one T a b p q
+accepted-one Next T a b next (inl p) (inr q) = absurd (rejected-apart T a p q.0)
+accepted-one Next T a b next (inr p) (inl q) = absurd (rejected-apart T b q p.0)
+accepted-one Next T a b next (inr p) (inr q) = next p.1 q.1
+
+-- ---- requests
+
+known-port : (T : Topology) (port : Name) (wish : Wish) → IsKnownEnd T port wish → IsKnownEnd T port Any
+known-port T port wish known = (known.0, known.1, tt)
+
+stated : (T : Topology) (port : Name) (wish other : Wish) → wish ≡ other → IsKnownEnd T port wish → IsKnownEnd T port other
+stated T port wish other e known = subst (λ (w : Wish). IsKnownEnd T port w) e known
+
+pub refusal-apart : (T : Topology) (r : Request) (fault : SolveFault) → fault ≢ solving.NoMemory → IsRefusal T r fault → IsKnown T r → ⊥
+refusal-apart T r (solving.UnknownPort id) told (inl p) known = p.1 (known-port T r.from r.from_wish known.0)
+refusal-apart T r (solving.UnknownPort id) told (inr p) known = p.2 (known-port T r.to r.to_wish known.1)
+refusal-apart T r (solving.LabelNotHere id label) told p known = label-apart p.2
+  where
+    label-apart : ((id ≡ r.from) × (r.from_wish ≡ Value label) × (¬ IsKnownEnd T r.from (Value label)))
+        ⊎ ((id ≡ r.to) × (r.to_wish ≡ Value label) × IsKnownEnd T r.from r.from_wish × (¬ IsKnownEnd T r.to (Value label))) → ⊥
+    label-apart (inl q) = q.2 (stated T r.from r.from_wish (Value label) q.1 known.0)
+    label-apart (inr q) = q.3 (stated T r.to r.to_wish (Value label) q.1 known.1)
+refusal-apart T r solving.NoMemory told p known = told refl
+
+-- ---- the commands
+
+found-in-one : (r : Request) (T : Topology) (a b : Reply) → IsFoundIn r T a → IsFoundIn r T b → SameStatus a b
+found-in-one r T a b (inl p) (inl q) = by-lines a b _ _ p.is q.is refl
+found-in-one r T a b (inl p) (inr q) = absurd (refusal-apart T r p.fault p.told p.cause q.known)
+found-in-one r T a b (inr p) (inl q) = absurd (refusal-apart T r q.fault q.told q.cause p.known)
+found-in-one r T a b (inr p) (inr q) = by-lines a b _ _ p.is q.is (ap status_of (one_outcome T r p.outcome q.outcome p.is_outcome q.is_outcome))
+
+found-one : (r : Request) (T : Topology) (a b : Reply) → IsFound r T a → IsFound r T b → SameStatus a b
+found-one r T a b (inl p) (inl q) = by-lines a b _ _ p.is q.is refl
+found-one r T a b (inl p) (inr q) = absurd (p.uncovered q.0)
+found-one r T a b (inr p) (inl q) = absurd (q.uncovered p.0)
+found-one r T a b (inr p) (inr q) = found-in-one r T a b p.1 q.1
+
+survey-one : (T : Topology) (a b : Reply) → IsSurvey T a → IsSurvey T b → SameStatus a b
+survey-one T a b p q = by-lines a b _ _ p.is q.is refl
+
+abbrev Told : Type 0
+Told = List ℕ → Option (List ℕ)
+
+replies-one : (command : Command) (T : Topology) (a b : Reply) → Replies command T a → Replies command T b → SameStatus a b
+replies-one (Find request files potentials) T a b p q = found-one request T a b p q
+replies-one (Survey files) T a b p q = survey-one T a b p q
+
+command-one : (command : Option Command) (before after : Store) (told : Told) (a b : Reply) → before.contents ≡ Some told → ¬ Rose before.faults after.faults
+    → CommandAnswers command before after a → CommandAnswers command before after b → SameStatus a b
+command-one None before after told a b e calm p q = by-lines a b _ _ p q refl
+command-one (Some command) before after told a b e calm p q =
+    over-files before after told (files_named command) (IfAccepted (Replies command)) a b e calm (λ T. accepted-one (Replies command) T a b (replies-one command T a b)) p q
+
+told-one : (contents : Contents) (command : Option Command) (before after : Store) (a b : Reply) → before.contents ≡ contents → IsSome contents → ¬ Rose before.faults after.faults
+    → CommandAnswers command before after a → CommandAnswers command before after b → SameStatus a b
+told-one (Some told) command before after a b e some calm p q = command-one command before after told a b e calm p q
+told-one None command before after a b e some calm p q = absurd (false≢true some)
+
+pub Answers-one : (words : Words) (before after : Store) (a b : Reply) → IsSome before.contents → ¬ Rose before.faults after.faults
+    → Answers words before after a → Answers words before after b → SameStatus a b
+Answers-one words before after a b some calm p q = told-one before.contents (command_of words) before after a b refl some calm p q

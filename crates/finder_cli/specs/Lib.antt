@@ -1,0 +1,13 @@
+pub mod Words
+pub mod Spells
+pub mod Status
+pub mod Lines
+pub mod Through
+pub mod Pages
+pub mod Reading
+pub mod Accepting
+pub mod Surveying
+pub mod Finding
+pub mod Answers
+pub mod Printed
+pub mod Sentences

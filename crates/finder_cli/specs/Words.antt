@@ -1,0 +1,67 @@
+-- The command that the words spell.
+use Rattle.std.specs.Prelude.{ℕ, ◌+◌, ◌≤◌, List, [], ◌∷◌, ◌&&◌, length, map, nat_lt, nat_le, codes, Bool, true, Option, Some, None, String, string_bytes, if◌then◌else◌}
+use Rattle.std.specs.List.{list_all}
+use Rattle.std.specs.Str.{bytes_eq}
+use Rattle.std.specs.declared.alloc.Global.{Global}
+use Rattle.ml_base.specs.declared.numbers.Wish.{Wish}
+use Rattle.circuit_spec.specs.declared.hops.Request.{Request}
+use Rattle.domain_config.specs.Fields.{id_of}
+use Rattle.answer_text.specs.Reading.{wish_of}
+use Rattle.finder_cli.specs.declared.words.End.{End}
+use Rattle.finder_cli.specs.declared.words.Command.{Command}
+use Rattle.finder_cli.specs.declared.words.Command.TheVariants.{Find, Survey}
+
+-- a word, as its bytes
+abbrev pub Word : Type 0
+Word = List ℕ
+
+abbrev pub Words : Type 0
+Words = List (String Global)
+
+-- what is spelled by a part, and then by what follows it
+infixl 10 ◌>>=◌
+abbrev pub ◌>>=◌ : {A B : Type 0} → Option A → (A → Option B) → Option B
+None >>= f = None
+(Some a) >>= f = f a
+
+abbrev pub is_word : Word → Word → Bool
+is_word word spelled = bytes_eq word spelled
+
+abbrev pub has_bytes : String Global → Bool
+has_bytes word = nat_lt 0 (length (string_bytes word))
+
+-- 1 to 64 words, none of them empty, name files
+unfoldable pub files_of : Words → Option (List Word)
+files_of names =
+    if nat_le 1 (length names) && nat_le (length names) 64 && list_all has_bytes names then Some (map string_bytes names) else None
+
+-- an id, and a wish: `any` or a label
+unfoldable pub end_of : Word → Word → Option End
+end_of port wish = do
+  id ← id_of port
+  wished ← wish_of wish
+  Some (record { port = id; wish = wished })
+
+unfoldable pub find_of : Words → Option Command
+find_of (from ∷ from_wish ∷ to ∷ to_wish ∷ names) = do
+  source ← end_of (string_bytes from) (string_bytes from_wish)
+  target ← end_of (string_bytes to) (string_bytes to_wish)
+  files ← files_of names
+  Some (Find (record { from = source.port; from_wish = source.wish; to = target.port; to_wish = target.wish }) files true)
+find_of words = None
+
+unfoldable pub survey_of : Words → Option Command
+survey_of names = do
+  files ← files_of names
+  Some (Survey files)
+
+unfoldable pub command_of : Words → Option Command
+command_of [] = None
+command_of (word ∷ rest) =
+    if is_word (string_bytes word) (codes "find") then find_of rest
+    else (if is_word (string_bytes word) (codes "survey") then survey_of rest else None)
+
+-- the command names at most 64 files
+abbrev pub NamesFewFiles : Command → Type 0
+NamesFewFiles (Find request files potentials) = length files ≤ 64
+NamesFewFiles (Survey files) = length files ≤ 64
