@@ -1,5 +1,5 @@
 -- The words of a line, seen as the rows that are read.
-use Rattle.std.specs.Prelude.{ℕ, List, Option}
+use Rattle.std.specs.Prelude.{ℕ, suc, List, Option}
 use Rattle.ml_base.specs.declared.weight.Weight.{Weight}
 use Rattle.circuit_spec.specs.declared.hops.HopKind.{HopKind}
 use Rattle.circuit_spec.specs.declared.hops.PlaceName.{PlaceName}
@@ -7,7 +7,8 @@ use Rattle.domain_config.specs.Fields.{Word, And, Done, done, and_of, id_of, tag
 use Rattle.ml_base.specs.declared.numbers.Wish.{Wish}
 use Rattle.circuit_spec.specs.declared.hops.Request.{Request}
 use Rattle.answer_text.specs.declared.fields.HopWords as fields
-use Rattle.answer_text.specs.Reading.{Numbers, TopWords, SegWords, HopWords, RequestWords, flag_of, wish_of}
+use Rattle.answer_text.specs.Reading.{Numbers, TopWords, SegWords, HopWords, RequestWords, flag_of, wish_of, Phase, Hops, add_hop}
+use Rattle.answer_text.specs.declared.answer.Answer.{Answer}
 
 abbrev pub numbers_view : ℕ × ℕ → Numbers
 numbers_view x = record { head = x.0; rest = record { head = x.1; rest = done } }
@@ -67,3 +68,9 @@ half_view x = record { head = x.0; rest = record { head = x.1; rest = done } }
 
 abbrev pub request_view : Request → RequestWords
 request_view r = record { head = r.from; rest = record { head = r.from_wish; rest = half_view (r.to, r.to_wish) } }
+
+-- ---- lines
+
+-- a hop of this number leads on, and is added
+abbrev pub hop_added : ℕ → fields.HopWords → Phase × (Answer → Answer)
+hop_added n x = (Hops (suc n), add_hop x.hop x.flag)

@@ -72,7 +72,7 @@ fn take_kind(rest: Option<&[u8]>) -> Result<(HopKind, Option<&[u8]>), Refused>
 
 // A cost, and a number of hops of at most 2^40.
 #[tactic(auto, using(domain_config::proofs::Taking::fails_first, domain_config::proofs::Taking::fails_later, domain_config::proofs::Taking::and_both))]
-fn numbers(rest: Option<&[u8]>) -> Result<(u64, u64), Refused>
+pub(crate) fn numbers(rest: Option<&[u8]>) -> Result<(u64, u64), Refused>
     ensures { Gives numbers_view result (numbers_of (parts_of 32 (option_copied rest.entry))) }
 {
     let (cost, rest) = take_number(rest, u64::MAX)?;
@@ -175,7 +175,7 @@ fn to_words(
 }
 
 #[tactic(auto, using(domain_config::proofs::Taking::fails_first, domain_config::proofs::Taking::fails_later, domain_config::proofs::Taking::and_both))]
-fn top_words(alloc: Global, rest: Option<&[u8]>) -> Result<(PlaceName, Weight), Refused>
+pub(crate) fn top_words(alloc: Global, rest: Option<&[u8]>) -> Result<(PlaceName, Weight), Refused>
     ensures { Gives top_view result (top_words_of (parts_of 32 (option_copied rest.entry))) }
 {
     let (class, rest) = take_id(alloc, rest)?;
@@ -218,7 +218,7 @@ pub(crate) struct HopWords {
 }
 
 #[tactic(auto, using(domain_config::proofs::Taking::fails_first, domain_config::proofs::Taking::fails_later, domain_config::proofs::Taking::and_both))]
-fn hop_words(alloc: Global, rest: Option<&[u8]>) -> Result<HopWords, Refused>
+pub(crate) fn hop_words(alloc: Global, rest: Option<&[u8]>) -> Result<HopWords, Refused>
     ensures { Gives hop_view result (hop_words_of (parts_of 32 (option_copied rest.entry))) }
 {
     let (number, rest) = take_number(rest, u64::MAX)?;
@@ -240,7 +240,7 @@ fn hop_words(alloc: Global, rest: Option<&[u8]>) -> Result<HopWords, Refused>
 }
 
 #[tactic(auto, using(domain_config::proofs::Taking::fails_first, domain_config::proofs::Taking::fails_later, domain_config::proofs::Taking::and_both))]
-fn seg_words(
+pub(crate) fn seg_words(
     alloc: Global,
     rest: Option<&[u8]>,
 ) -> Result<(PlaceName, (PlaceName, Weight)), Refused>

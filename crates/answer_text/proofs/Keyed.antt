@@ -1,0 +1,24 @@
+-- Lines that begin with a key.
+use Rattle.std.proofs.Common.{◌≡◌, ◌∙◌, refl, sym, ap, subst, ℕ, suc, List, ◌∷◌, Bool, true, cond, Option, Some, None, Result}
+use Rattle.std.specs.Prelude.{nat_eq, codes}
+use Rattle.std.specs.Str.{bytes_eq}
+use Rattle.std.proofs.lemmas.Bool.{eq-eqb}
+use Rattle.std.proofs.lemmas.Slice.Eq.{bytes_eq-Decides}
+use Rattle.domain_config.specs.declared.reading.Refused.{Refused}
+use Rattle.domain_config.specs.Fields.{Word, kept_if}
+use Rattle.domain_config.specs.Cursor.{Gives}
+use Rattle.answer_text.specs.Reading.{behind, HopWords, hop_of, flag_in, follow_hop, Phase, Hops, add_hop}
+use Rattle.answer_text.specs.declared.answer.Answer.{Answer}
+use Rattle.answer_text.specs.declared.fields.HopWords as fields
+use Rattle.answer_text.specs.Views.{hop_view, hop_added}
+
+behind_key : {A : Type 0} (key word : Word) (read : List Word → Option A) (words ws : List Word) → words ≡ word ∷ ws → word ≡ key → behind key read words ≡ read ws
+behind_key key word read words ws cut is =
+    ap (behind key read) cut ∙ ap (λ (t : Bool). cond t (read ws) None) ((bytes_eq-Decides word key).1 is)
+
+pub given_behind : {X Y : Type 0} (view : X → Y) (result : Result X Refused) (key word : Word) (read : List Word → Option Y) (words ws : List Word) → words ≡ word ∷ ws → word ≡ key → Gives view result (read ws) → Gives view result (behind key read words)
+given_behind {Y} view result key word read words ws cut is given = subst (λ (o : Option Y). Gives view result o) (sym (behind_key key word read words ws cut is)) given
+
+pub hop_follows : (n : ℕ) (o : Option HopWords) (x : fields.HopWords) → o ≡ Some (hop_view x) → x.number ≡ n → follow_hop n o ≡ Some (hop_added n x)
+hop_follows n o x read same =
+    ap (follow_hop n) read ∙ ap (λ (t : Bool). kept_if t (hop_added n x)) (eq-eqb x.number n same)
