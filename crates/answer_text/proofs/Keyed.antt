@@ -1,13 +1,11 @@
 -- Lines that begin with a key.
-use Rattle.std.proofs.Common.{◌≡◌, ◌∙◌, refl, sym, ap, subst, ℕ, suc, List, [], ◌∷◌, Bool, true, cond, Option, Some, None, Result}
-use Rattle.std.specs.Prelude.{nat_eq, codes}
-use Rattle.std.specs.Str.{bytes_eq}
+use Rattle.std.proofs.Common.{◌≡◌, ◌∙◌, sym, ap, subst, ℕ, List, [], ◌∷◌, Bool, true, cond, Option, Some, None, Result}
 use Rattle.std.proofs.lemmas.Bool.{eq-eqb}
 use Rattle.std.proofs.lemmas.Slice.Eq.{bytes_eq-Decides}
 use Rattle.domain_config.specs.declared.reading.Refused.{Refused}
 use Rattle.domain_config.specs.Fields.{Word, kept_if}
 use Rattle.domain_config.specs.Cursor.{Gives}
-use Rattle.answer_text.specs.Reading.{behind, HopWords, hop_of, flag_in, follow_hop, Phase, Hops, add_hop, or_else, where_ended, Step}
+use Rattle.answer_text.specs.Reading.{behind, HopWords, follow_hop, Phase, or_else, where_ended, Step}
 use Rattle.domain_config.specs.declared.rules.Rule.{Rule}
 use Rattle.answer_text.specs.declared.answer.Answer.{Answer}
 use Rattle.answer_text.specs.declared.fields.HopWords as fields

@@ -1,7 +1,6 @@
 -- The words of a line, seen as the rows that are read.
 use Rattle.std.specs.Prelude.{ℕ, suc, List, Option}
 use Rattle.ml_base.specs.declared.weight.Weight.{Weight}
-use Rattle.circuit_spec.specs.declared.hops.HopKind.{HopKind}
 use Rattle.circuit_spec.specs.declared.hops.PlaceName.{PlaceName}
 use Rattle.domain_config.specs.Fields.{Word, And, Done, done, and_of, id_of, tag_of, done_of}
 use Rattle.ml_base.specs.declared.numbers.Wish.{Wish}

@@ -162,10 +162,7 @@ fn end_words(alloc: Global, rest: Option<&[u8]>) -> Result<(Id, Option<u64>), Re
 }
 
 #[tactic(auto, using(domain_config::proofs::Taking::fails_first, domain_config::proofs::Taking::fails_later, domain_config::proofs::Taking::and_both))]
-fn to_words(
-    alloc: Global,
-    rest: Option<&[u8]>,
-) -> Result<(PlaceName, (Id, Option<u64>)), Refused>
+fn to_words(alloc: Global, rest: Option<&[u8]>) -> Result<(PlaceName, (Id, Option<u64>)), Refused>
     ensures { Gives to_view result (to_words_of (parts_of 32 (option_copied rest.entry))) }
 {
     let (class, rest) = take_id(alloc, rest)?;

@@ -1,6 +1,5 @@
-use Rattle.std.proofs.Common.{◌≡◌, ◌∙◌, option_copied}
+use Rattle.std.proofs.Common.{◌∙◌}
 use Rattle.std.specs.Prelude.{codes}
-use Rattle.domain_config.specs.Cursor.{parts_of}
 use Rattle.domain_config.proofs.Numbers.{same_words}
 use Rattle.answer_text.specs.Reading.{hop_words_of}
 use Rattle.answer_text.specs.Views.{hop_view}
