@@ -1,14 +1,14 @@
 -- A document that is written piece by piece.
-use Rattle.std.proofs.Common.{◌≡◌, ◌∙◌, sym, ap, subst, refl, ℕ, suc, ◌+◌, ◌≤◌, ◌<◌, List, [], ◌∷◌, ◌++◌, length, drop, get_or, map, append_assoc, Option, Some, None, arith, add-one}
+use Rattle.std.proofs.Common.{◌≡◌, ◌∙◌, sym, ap, subst, refl, ℕ, suc, ◌+◌, ◌≤◌, ◌<◌, List, [], ◌∷◌, ◌++◌, length, drop, get_or, map, Option, None, arith, add-one}
 use Rattle.std.specs.Prelude.{codes}
-use Rattle.std.proofs.lemmas.List.{append-nil, drop_all, drop_more}
+use Rattle.std.proofs.lemmas.List.{drop_all, drop_more}
 use Rattle.circuit_spec.specs.declared.hops.Hop.{Hop}
 use Rattle.circuit_spec.specs.declared.hops.Outcome.{Outcome}
 use Rattle.circuit_spec.specs.declared.hops.Outcome.TheVariants as outcome
 use Rattle.domain_config.specs.declared.rules.Rule.{Rule}
-use Rattle.domain_config.specs.Lines.{Line, text_of}
+use Rattle.domain_config.specs.Lines.{text_of}
 use Rattle.domain_config.specs.Rules.{Start, rule_lines, AreLaidOut}
-use Rattle.domain_config.proofs.Writes.{at_item, lines_join, one_line}
+use Rattle.domain_config.proofs.Writes.{at_item, lines_join}
 use Rattle.answer_text.specs.declared.answer.Answer.{Answer}
 use Rattle.answer_text.specs.declared.answer.PotLine.{PotLine}
 use Rattle.answer_text.specs.Spelling.{heading_lines, body_lines, hop_line, hop_lines, pot_line, lines_of, AreHops, ArePots, IsBody, HasBareBody, IsWellFormed}

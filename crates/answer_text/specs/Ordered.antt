@@ -1,5 +1,5 @@
 -- What the types of an answer's parts do not say of it.
-use Rattle.std.specs.Prelude.{◌≡◌, ℕ, ◌≤◌, ◌^◌, List, [], ◌∷◌, length, IsTrue, Option, Some, None}
+use Rattle.std.specs.Prelude.{◌≡◌, ◌≤◌, ◌^◌, List, [], ◌∷◌, length, IsTrue, Option, Some, None}
 use Rattle.ml_base.specs.declared.weight.Weight.{Weight}
 use Rattle.ml_base.specs.declared.weight.Weight.TheVariants.{Known, Past}
 use Rattle.circuit_spec.specs.declared.hops.Outcome.{Outcome}

@@ -44,7 +44,7 @@ fn places_equal(a: &PlaceName, b: &PlaceName) -> bool
 }
 
 /// Whether a potential stands before another: those of the request first, then by root, then by place.
-pub(crate) fn pot_below(a: &PotLine, b: &PotLine) -> bool
+fn pot_below(a: &PotLine, b: &PotLine) -> bool
     ensures { result ≡ is_pot_below a.now.root a.now.place b.now.root b.now.place }
 {
     match &a.root {
@@ -60,7 +60,7 @@ pub(crate) fn pot_below(a: &PotLine, b: &PotLine) -> bool
     }
 }
 
-fn follows(previous: Option<&PotLine>, pot: &PotLine) -> bool
+pub(crate) fn follows(previous: Option<&PotLine>, pot: &PotLine) -> bool
     ensures { result ≡ may_follow_pot (option_copied previous.entry) pot.now }
 {
     match previous {

@@ -1,5 +1,5 @@
 -- A text that is read line by line, from its front.
-use Rattle.std.proofs.Common.{◌≡◌, ◌∙◌, refl, sym, ap, ℕ, suc, ◌+◌, List, [], ◌∷◌, ◌++◌, Option, Some, None, Result, Ok, Err}
+use Rattle.std.proofs.Common.{◌≡◌, ◌∙◌, refl, sym, ap, ℕ, suc, List, [], ◌∷◌, Option, Some, None, Result, Ok, Err}
 use Rattle.domain_config.specs.Lines.{Line, pieces, read_from, goes_on, closing, adding}
 use Rattle.domain_config.proofs.LineLaws.{first_piece}
 

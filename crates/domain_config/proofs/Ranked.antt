@@ -1,6 +1,6 @@
 -- Rules that are sorted, with numbers of their own, are in order.
 use Rattle.std.proofs.Common.{◌≡◌, ◌∙◌, refl, sym, ap, subst, ℕ, suc, ◌+◌, ◌<◌, ◌≤◌, List, [], ◌∷◌, ◌++◌, length, drop, get_or, Bool, true, false, ◌&&◌, cond, arith, add-one, Ordering, Less, Equal, Greater, append_assoc}
-use Rattle.std.specs.Prelude.{IsTrue, nat_eq, nat_lt, All}
+use Rattle.std.specs.Prelude.{nat_eq, nat_lt}
 use Rattle.std.specs.List.{sum_by, AllByRecursion}
 use Rattle.std.specs.List.Sorted.{IsPermutation, IsSortedBy}
 use Rattle.std.specs.Ordering.{nat_cmp, is_lt, is_eq, ordering_then, ordering_reverse}
@@ -72,9 +72,10 @@ IsRising before (r ∷ rs) = (less r before ≡ false) × IsRising r rs
 
 rising : (before : Rule) (rs : List Rule) → IsSortedBy less (before ∷ rs) → IsRising before rs
 rising before [] up = tt
-rising before (r ∷ rs) up =
-    (up 0 r (omega arith) (omega arith),
-      rising r rs (λ k d low lt. let e : suc k + 1 ≡ suc (k + 1) = omega arith in subst (λ (j : ℕ). less (get_or (before ∷ r ∷ rs) j d) (get_or (r ∷ rs) k d) ≡ false) e (up (suc k) d (omega arith) (omega (arith, lt)))))
+rising before (r ∷ rs) up = (
+  up 0 r (omega arith) (omega arith),
+  rising r rs (λ k d low lt. let e : suc k + 1 ≡ suc (k + 1) = omega arith in subst (λ (j : ℕ). less (get_or (before ∷ r ∷ rs) j d) (get_or (r ∷ rs) k d) ≡ false) e (up (suc k) d (omega arith) (omega (arith, lt)))),
+)
 
 not_less : (a b : ℕ) → is_lt (nat_cmp b a) ≡ false → a ≤ b
 not_less a b h = grind (arith, nat_tests)
@@ -126,9 +127,10 @@ two_apart a b rs h e = omega (arith, count_more a.number a (b ∷ rs), count_mor
 
 behind_in_order : (before : Rule) (rs : List Rule) → IsRising before rs → ((n : ℕ) → count n (before ∷ rs) ≤ 1) → count 0 (before ∷ rs) ≤ 0 → AreInOrder (In before.hop.domain before.number) rs
 behind_in_order before [] up own some = positive before [] (omega arith)
-behind_in_order before (r ∷ rs) up own some =
-    (follows before r up.0 (two_apart before r rs (own before.number)) (positive before (r ∷ rs) (omega arith)) (positive r rs (omega (arith, fewer 0 0 before (r ∷ rs) some))),
-      behind_in_order r rs up.1 (λ n. fewer n 1 before (r ∷ rs) (own n)) (fewer 0 0 before (r ∷ rs) some))
+behind_in_order before (r ∷ rs) up own some = (
+  follows before r up.0 (two_apart before r rs (own before.number)) (positive before (r ∷ rs) (omega arith)) (positive r rs (omega (arith, fewer 0 0 before (r ∷ rs) some))),
+  behind_in_order r rs up.1 (λ n. fewer n 1 before (r ∷ rs) (own n)) (fewer 0 0 before (r ∷ rs) some),
+)
 
 in_order : (rs : List Rule) → IsSortedBy less rs → ((n : ℕ) → count n rs ≤ 1) → count 0 rs ≤ 0 → AreInOrder Start rs
 in_order [] up own some = tt
@@ -140,8 +142,8 @@ pub sorted_are_rules : (hops : List Hop) (rs ss : List Rule) → rs ≡ numbered
 sorted_are_rules hops rs ss is moved up = record {
   same = subst (λ (qs : List Rule). IsPermutation qs ss) is moved;
   in_order = in_order ss up
-    (λ n. omega (arith, counted n, at_most_one hops 1 n))
-    (omega (arith, counted 0, none_below hops 1 0 (omega arith)));
+      (λ n. omega (arith, counted n, at_most_one hops 1 n))
+      (omega (arith, counted 0, none_below hops 1 0 (omega arith)));
 }
   where
     counted : (n : ℕ) → count n ss ≡ count n (numbered 1 hops)

@@ -1,8 +1,7 @@
 -- A text that is written piece by piece.
-use Rattle.std.proofs.Common.{◌≡◌, ◌∙◌, sym, ap, subst, refl, ℕ, ◌+◌, ◌≤◌, ◌<◌, List, [], ◌∷◌, ◌++◌, length, take, drop, get_or, length-append, append_assoc, Option, Some, None, Result, Ok, Err, OnErr, arith, drop-cons, add-one}
+use Rattle.std.proofs.Common.{◌≡◌, ◌∙◌, sym, ap, subst, refl, ℕ, ◌+◌, ◌≤◌, ◌<◌, List, [], ◌∷◌, ◌++◌, length, take, drop, get_or, length-append, append_assoc, Option, Some, None, Result, Ok, Err, OnErr, arith}
 use Rattle.std.proofs.lemmas.List.{take-append-le, append-nil, drop_more, drop_all}
 use Rattle.std.proofs.Math.Seq.{take-append-add}
-use Rattle.std.specs.List.{flat_map}
 use Rattle.std.proofs.lemmas.Grind.{flat_map-append}
 use Rattle.domain_config.specs.declared.rules.Rule.{Rule}
 use Rattle.domain_config.specs.Lines.{Line, text_of}

@@ -1,6 +1,5 @@
 -- What one line of a layout says, and how a text is answered.
-use Rattle.std.specs.Prelude.{◌≡◌, ℕ, List, [], ◌∷◌, ◌++◌, Option, Some, None, Result, Ok, Err}
-use Rattle.ml_base.specs.declared.id.Id.{Id}
+use Rattle.std.specs.Prelude.{◌≡◌, ℕ, List, ◌∷◌, ◌++◌, Option, Some, None, Result, Ok, Err}
 use Rattle.domain_config.specs.declared.rules.Rule.{Rule}
 use Rattle.domain_config.specs.declared.rules.RuleFault.{RuleFault}
 use Rattle.domain_config.specs.declared.rules.RuleFault.TheVariants as fault

@@ -35,10 +35,7 @@ impl RuleReader {
         ensures rules { result.rules ≡ [] }
     {
         RuleReader {
-            before: Before {
-                domain: None,
-                last: 0,
-            },
+            before: Before::nothing(),
             rules: Items::new(alloc),
         }
     }
@@ -69,10 +66,7 @@ impl RuleReader {
     pub fn may_end(&self) -> bool
         ensures { rules_end (at_of self.now.before) ≡ kept_if result [] }
     {
-        match &self.before.domain {
-            Some(_) => 0 < self.before.last,
-            None => true,
-        }
+        self.before.may_end()
     }
 }
 

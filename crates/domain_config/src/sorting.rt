@@ -56,7 +56,10 @@ fn number_hops(alloc: Global, hops: &[Hop]) -> Result<Vec<Rule>, NoMemory>
 fn rule_order(a: &Rule, b: &Rule) -> Ordering
     ensures { result ≡ rule_cmp a.now b.now }
 {
-    a.hop.domain.cmp(&b.hop.domain).then(a.number.cmp(&b.number))
+    a.hop
+        .domain
+        .cmp(&b.hop.domain)
+        .then(a.number.cmp(&b.number))
 }
 
 fn sort_rules(rules: &mut Vec<Rule>) -> Result<(), NoMemory>

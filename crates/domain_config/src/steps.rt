@@ -1,7 +1,7 @@
 // What one line of a layout of rules says.
-ghost use Rattle.std.specs.Prelude.{◌≡◌, ◌+◌, IsTrue, ◌&&◌, ◌∷◌, option_copied, nat_lt};
-ghost use Rattle.domain_config.specs.Fields.{id_of, done_of, and_of};
-ghost use Rattle.domain_config.specs.Rules.{agrees, is_below, kind_of, to_domain, to_rule, rule_step, rule_words_of, tags_agree};
+ghost use Rattle.std.specs.Prelude.{◌≡◌, ◌+◌, IsTrue, ◌&&◌, ◌∷◌, [], option_copied, nat_lt};
+ghost use Rattle.domain_config.specs.Fields.{id_of, done_of, and_of, kept_if};
+ghost use Rattle.domain_config.specs.Rules.{Start, rules_end, agrees, is_below, kind_of, to_domain, to_rule, rule_step, rule_words_of, tags_agree};
 ghost use Rattle.domain_config.specs.Cursor.{parts_of, Gives, verb_view};
 ghost use Rattle.domain_config.specs.Taking.{words_view, domain_view};
 ghost use Rattle.domain_config.specs.Saying.{at_of, step_of};
@@ -19,6 +19,28 @@ use std::alloc::Global;
 pub struct Before {
     pub domain: Option<Id>,
     pub last: u64,
+}
+
+impl Before {
+    /// Nothing stands before.
+    pub fn nothing() -> Before
+        ensures { at_of result ≡ Start }
+    {
+        Before {
+            domain: None,
+            last: 0,
+        }
+    }
+
+    /// Whether the layout may end here.
+    pub fn may_end(&self) -> bool
+        ensures { rules_end (at_of self.now) ≡ kept_if result [] }
+    {
+        match &self.domain {
+            Some(_) => 0 < self.last,
+            None => true,
+        }
+    }
 }
 
 /// What a line says.

@@ -1,4 +1,4 @@
-use Rattle.std.proofs.Common.{◌≡◌, ◌∙◌, sym, ap, List, Result, Ok, ℕ}
+use Rattle.std.proofs.Common.{◌≡◌, ◌∙◌, ap, Result, Ok, ℕ}
 use Rattle.domain_config.specs.Lines.{text_of}
 use Rattle.domain_config.proofs.LineLaws.{text_read}
 use Rattle.answer_text.specs.declared.answer.Answer.{Answer}

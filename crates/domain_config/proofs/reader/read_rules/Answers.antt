@@ -1,12 +1,11 @@
-use Rattle.std.proofs.Common.{◌≡◌, ◌∙◌, sym, refl, ap, subst, rules, arith, ℕ, suc, ◌+◌, List, [], ◌∷◌, Option, Some, None, Result, Ok, Err, add-one}
+use Rattle.std.proofs.Common.{◌≡◌, ◌∙◌, sym, ap, subst, rules, arith, ℕ, ◌+◌, List, [], ◌∷◌, Result, Err, add-one}
 use Rattle.std.proofs.lemmas.Result.{err_from_is_err_and}
 use Rattle.domain_config.specs.declared.rules.Rule.{Rule}
 use Rattle.domain_config.specs.declared.rules.RuleFault.{RuleFault}
 use Rattle.domain_config.specs.declared.rules.RuleFault.TheVariants as fault
 use Rattle.domain_config.specs.declared.reader.RuleReader.{RuleReader}
-use Rattle.domain_config.specs.Lines.{Line, pieces, read_from, adding, closing}
-use Rattle.domain_config.specs.Rules.{At, rule_step, rules_end}
-use Rattle.domain_config.specs.Layout.{rules_in}
+use Rattle.domain_config.specs.Lines.{pieces, read_from, adding, closing}
+use Rattle.domain_config.specs.Rules.{rule_step, rules_end}
 use Rattle.domain_config.specs.Saying.{at_of, behind_rules, Takes, TakesAt, AnswersAs}
 use Rattle.domain_config.proofs.Onward.{taken_on, misfit_on, closed_on}
 use Rattle.domain_config.proofs.RuleTexts.{answered_laid_out, answered_first}

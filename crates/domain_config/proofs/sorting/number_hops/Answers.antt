@@ -1,4 +1,4 @@
-use Rattle.std.proofs.Common.{subst, sym, List, [], ◌∷◌, rules, arith}
+use Rattle.std.proofs.Common.{subst, sym, List, [], arith}
 use Rattle.std.specs.Prelude.{All}
 use Rattle.std.proofs.lemmas.List.Elements.{All-append, All-cons}
 use Rattle.domain_config.specs.declared.rules.Rule.{Rule}

@@ -1,5 +1,5 @@
-use Rattle.std.proofs.Common.{◌≡◌, ◌∙◌, ap, subst, sym, List, Result, Ok, Err, rules}
-use Rattle.std.specs.Prelude.{IfOk, All}
+use Rattle.std.proofs.Common.{◌≡◌, ◌∙◌, ap, subst, sym, List, Result, Ok, Err}
+use Rattle.std.specs.Prelude.{IfOk}
 use Rattle.std.proofs.lemmas.List.Elements.{recursion_from_All}
 use Rattle.std.proofs.lemmas.List.Sorted.{All-permutation}
 use Rattle.domain_config.specs.declared.rules.Rule.{Rule}

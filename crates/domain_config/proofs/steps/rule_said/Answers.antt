@@ -1,7 +1,6 @@
-use Rattle.std.proofs.Common.{◌≡◌, ◌∙◌, ap, sym, refl, ℕ, ◌<◌, Option, Some, true, Bool, ◌&&◌, arith, rules, List, ◌∷◌}
+use Rattle.std.proofs.Common.{◌≡◌, ◌∙◌, ap, sym, ℕ, ◌<◌, Option, Some, true, Bool, arith, rules, ◌∷◌}
 use Rattle.std.specs.Prelude.{nat_lt}
 use Rattle.std.proofs.lemmas.Bool.{and_from}
-use Rattle.std.proofs.lemmas.Bool.Decides.{nat_tests}
 use Rattle.domain_config.specs.declared.rules.Rule.{Rule}
 use Rattle.domain_config.specs.Fields.{Word, kept_if}
 use Rattle.domain_config.specs.Rules.{At, In, RuleWords, tags_agree, rule_of, to_rule}

@@ -1,7 +1,6 @@
-use Rattle.std.proofs.Common.{rules, drop, ◌+◌}
+use Rattle.std.proofs.Common.{rules}
 use Rattle.std.specs.Prelude.{option_copied}
 use Rattle.domain_config.specs.Lines.{text_of}
-use Rattle.domain_config.specs.Rules.{Start, In, rule_lines}
 use Rattle.domain_config.specs.Writing.{after, lines_at}
 use Rattle.domain_config.proofs.Writes.{on_err, one_more, cut_short, same_left, rule_left}
 use Rattle.domain_config.proofs.writing.write_rules.Goals as goal

@@ -1,0 +1,64 @@
+// What one line says behind the heading of a document.
+ghost use Rattle.std.specs.Prelude.{◌≡◌, option_copied};
+ghost use Rattle.domain_config.specs.Cursor.{Gives};
+ghost use Rattle.domain_config.specs.Rules.{At, rules_end};
+ghost use Rattle.domain_config.specs.Saying.{at_of};
+ghost use Rattle.answer_text.specs.Reading.{end_step, pots_step, rules_step, where_ended};
+ghost use Rattle.answer_text.specs.Leading.{line_step};
+
+use crate::PotLine;
+use crate::fields::HopWords;
+use crate::steps::pot_line;
+use domain_config::{Before, Refused, Said, rule_line};
+use std::alloc::Global;
+
+/// What a line says.
+#[derive(Drop)]
+pub(crate) enum BodyLine {
+    Hop(HopWords),
+    Rule(Said),
+    Pot(PotLine),
+    End,
+}
+
+fn end_said(line: &[u8]) -> Result<BodyLine, Refused>
+    ensures { (at : At) → Gives (line_step at) result (end_step line.now) }
+{
+    if line != b"end".as_slice() {
+        return Err(Refused::Misfit);
+    }
+    Ok(BodyLine::End)
+}
+
+pub(crate) fn pots_said(
+    alloc: Global,
+    last: Option<&PotLine>,
+    line: &[u8],
+) -> Result<BodyLine, Refused>
+    ensures { (at : At) → Gives (line_step at) result (pots_step (option_copied last.entry) line.now) }
+{
+    match pot_line(alloc, last, line) {
+        Ok(pot) => Ok(BodyLine::Pot(pot)),
+        Err(Refused::Misfit) => end_said(line),
+        Err(Refused::NoMemory) => Err(Refused::NoMemory),
+    }
+}
+
+fn after_rules(alloc: Global, before: &Before, line: &[u8]) -> Result<BodyLine, Refused>
+    ensures { Gives (line_step (at_of before.now)) result (where_ended (rules_end (at_of before.now)) (pots_step Rattle.std.specs.Prelude.None line.now)) }
+{
+    if !before.may_end() {
+        return Err(Refused::Misfit);
+    }
+    pots_said(alloc, None, line)
+}
+
+pub(crate) fn rules_said(alloc: Global, before: &Before, line: &[u8]) -> Result<BodyLine, Refused>
+    ensures { Gives (line_step (at_of before.now)) result (rules_step (at_of before.now) line.now) }
+{
+    match rule_line(alloc, before, line) {
+        Ok(said) => Ok(BodyLine::Rule(said)),
+        Err(Refused::Misfit) => after_rules(alloc, before, line),
+        Err(Refused::NoMemory) => Err(Refused::NoMemory),
+    }
+}

@@ -1,0 +1,94 @@
+// What one line of a document says.
+ghost use Rattle.std.specs.Prelude.{◌≡◌, codes, option_copied, option_map, Some};
+ghost use Rattle.domain_config.specs.Fields.{words_in};
+ghost use Rattle.domain_config.specs.Cursor.{parts_of, Gives};
+ghost use Rattle.answer_text.specs.Reading.{behind, top_of, seg_of, pot_of, follow_pot, Pots, add_pot, top_words_of, seg_words_of, hop_words_of, request_words_of, follow_hop};
+ghost use Rattle.answer_text.specs.Views.{hop_view, request_view, hop_added};
+
+use crate::fields::{HopWords, hop_words, request_words, seg_words, top_words};
+use crate::order::follows;
+use crate::{PotLine, RootName};
+use circuit_spec::Request;
+use domain_config::{Refused, cut};
+use std::alloc::Global;
+
+pub(crate) fn request_line(alloc: Global, line: &[u8]) -> Result<Request, Refused>
+    ensures { Gives request_view result (behind (codes "request") request_words_of (words_in line.now)) }
+{
+    let (key, words) = cut(line, b' ');
+    if key != b"request".as_slice() {
+        return Err(Refused::Misfit);
+    }
+    request_words(alloc, words)
+}
+
+fn hop_of_line(alloc: Global, line: &[u8]) -> Result<HopWords, Refused>
+    ensures { Gives hop_view result (behind (codes "hop") hop_words_of (words_in line.now)) }
+{
+    let (key, words) = cut(line, b' ');
+    if key != b"hop".as_slice() {
+        return Err(Refused::Misfit);
+    }
+    hop_words(alloc, words)
+}
+
+/// The hop that a line says, where it has this number.
+pub(crate) fn hop_line(alloc: Global, number: u64, line: &[u8]) -> Result<HopWords, Refused>
+    ensures { Gives (hop_added number) result (follow_hop number (behind (codes "hop") hop_words_of (words_in line.now))) }
+{
+    let words = hop_of_line(alloc, line)?;
+    if words.number != number {
+        return Err(Refused::Misfit);
+    }
+    Ok(words)
+}
+
+fn top_of_line(alloc: Global, words: Option<&[u8]>) -> Result<PotLine, Refused>
+    ensures { Gives (λ p. p) result (option_map top_of (top_words_of (parts_of 32 (option_copied words.entry)))) }
+{
+    let (place, weight) = top_words(alloc, words)?;
+    Ok(PotLine {
+        root: RootName::Request,
+        place,
+        weight,
+    })
+}
+
+fn seg_of_line(alloc: Global, words: Option<&[u8]>) -> Result<PotLine, Refused>
+    ensures { Gives (λ p. p) result (option_map seg_of (seg_words_of (parts_of 32 (option_copied words.entry)))) }
+{
+    let (root, (place, weight)) = seg_words(alloc, words)?;
+    Ok(PotLine {
+        root: RootName::Entry(root),
+        place,
+        weight,
+    })
+}
+
+fn pot_of_line(alloc: Global, line: &[u8]) -> Result<PotLine, Refused>
+    ensures { Gives (λ p. p) result (pot_of (words_in line.now)) }
+{
+    let (key, words) = cut(line, b' ');
+    if key == b"top".as_slice() {
+        return top_of_line(alloc, words);
+    }
+    if key == b"seg".as_slice() {
+        return seg_of_line(alloc, words);
+    }
+    Err(Refused::Misfit)
+}
+
+/// The potential that a line says, where it may stand behind the last one.
+pub(crate) fn pot_line(
+    alloc: Global,
+    last: Option<&PotLine>,
+    line: &[u8],
+) -> Result<PotLine, Refused>
+    ensures { Gives (λ p. (Pots (Some p), add_pot p)) result (follow_pot (option_copied last.entry) (pot_of (words_in line.now))) }
+{
+    let pot = pot_of_line(alloc, line)?;
+    if !follows(last, &pot) {
+        return Err(Refused::Misfit);
+    }
+    Ok(pot)
+}
