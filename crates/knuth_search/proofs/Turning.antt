@@ -16,9 +16,13 @@ use Rattle.walk_grammar.proofs.Grammar.{Rules, rules_complete}
 use Rattle.adapt_machine.specs.declared.MachineStep.{MachineStep}
 use Rattle.adapt_machine.specs.Walks.{system_of, weight_of, cost_found}
 use Rattle.segment_grammar.specs.declared.potentials.Pot.{Pot}
-use Rattle.segment_grammar.specs.Pots.{pot}
+use Rattle.segment_grammar.specs.Pots.{pot, IsOfPair}
 use Rattle.segment_grammar.specs.Index.{step_no, IsFlatFrom, IsPushFrom, IsPopAt}
-use Rattle.segment_grammar.specs.Reached.{origin_of, IsSegmentUnder}
+use Rattle.segment_grammar.specs.Reached.{origin_of, IsSegmentUnder, IsReached, IsLeast}
+use Rattle.deriv_arena.specs.declared.Deriv.{Deriv}
+use Rattle.deriv_arena.specs.Derivation.{unfolding_of}
+use Rattle.knuth_search.specs.Derived.{Task, IsDerived}
+use Rattle.knuth_search.proofs.Deriving.{derived_segment, derived_weight}
 use Rattle.knuth_search.specs.Following.{zero, stepped, IsCovered, IsStepOf, FlatBy, OpenedBy, NestedBy, Closes, PushedBy, Extends, Fills, SomeStep, SomePot, Offers}
 use Rattle.knuth_search.specs.Searching.{Begins, Follows, Turns, IsComplete}
 use Rattle.knuth_search.proofs.Filed.{covered_itself}
@@ -180,3 +184,22 @@ module _ (steps : List MachineStep) (starts : List StateNo) (table : List Pot) (
   pub is_complete : IsComplete steps starts table
   is_complete root ks y s = subst (λ r. IsCovered table (pot r y (weight_of steps ks))) (root_same root)
       (rules_complete (system_of steps) (λ a. Contains starts a) Within rules (origin_of root) ks y s)
+
+-- a derived pair that weighs no more than what is listed of it has the least weight of its segments
+pub least_derived : (task : Task) (table : List Pot) (root : Root) (state : StateNo) (w : Weight) (d : Deriv) → IsComplete task.machine.steps task.starts table → IsDerived task (pot root state w) d
+    → ((p : Pot) → Contains table p → IsOfPair p root state → IsCappedAtMost w p.weight) → IsLeast task.machine.steps task.starts root state w
+least_derived task table root state w d complete is least = record {
+  segment = unfolding_of d;
+  is_segment = derived_segment task (pot root state w) d is;
+  weight = derived_weight task (pot root state w) d is;
+  least = λ ks s.
+      let c : IsCovered table (pot root state (weight_of task.machine.steps ks)) = complete root ks state s in
+      at_most-trans w c.weight (weight_of task.machine.steps ks) (least (pot root state c.weight) c.listed (refl, refl)) c.at_most;
+}
+
+-- a pair that is not listed is not reached
+pub none_reached : (steps : List MachineStep) (starts : List StateNo) (table : List Pot) (root : Root) (state : StateNo) → IsComplete steps starts table
+    → ((p : Pot) → Contains table p → IsOfPair p root state → ⊥) → IsReached steps starts root state → ⊥
+none_reached steps starts table root state complete none is =
+    let c : IsCovered table (pot root state (weight_of steps is.0)) = complete root is.0 state is.1 in
+    none (pot root state c.weight) c.listed (refl, refl)
