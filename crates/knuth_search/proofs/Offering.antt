@@ -1,15 +1,14 @@
 -- Candidates that are offered.
-use Rattle.std.proofs.Common.{◌≡◌, ℕ, ◌+◌, ◌<◌, ◌⊎◌, List, [], ◌∷◌, length, refl, sym, ◌∙◌, ap, subst, inl, inr, arith, Contains, Some, None, slice_get, zero as nought, suc, slice_index_or}
+use Rattle.std.proofs.Common.{◌≡◌, ℕ, ◌+◌, ◌<◌, ◌⊎◌, List, ◌∷◌, length, refl, sym, ◌∙◌, ap, subst, inl, inr, arith, Contains, Some, None, slice_get, zero as nought, suc, slice_index_or}
 use Rattle.std.specs.List.Sorted.{IsPermutation}
-use Rattle.std.proofs.lemmas.List.Sorted.{Contains-permutation, IsPermutation-sym}
+use Rattle.std.proofs.lemmas.List.Sorted.{Contains-permutation}
 use Rattle.std.proofs.lemmas.Bool.{cases_lt}
 use Rattle.std.proofs.Math.ListN.{get_or}
-use Rattle.std.proofs.lemmas.Option.{slice_get-get_or}
 use Rattle.ml_base.specs.declared.numbers.StepNo.{StepNo}
 use Rattle.ml_base.specs.declared.numbers.StateNo.{StateNo}
 use Rattle.ml_base.specs.declared.numbers.Root.{Root}
 use Rattle.adapt_machine.specs.declared.MachineKind.TheVariants.{Push}
-use Rattle.ml_base.specs.declared.numbers.Root.TheVariants.{Request, Entry}
+use Rattle.ml_base.specs.declared.numbers.Root.TheVariants.{Entry}
 use Rattle.ml_base.specs.declared.weight.Weight.{Weight}
 use Rattle.ml_base.specs.Weight.{capped_total}
 use Rattle.adapt_machine.specs.declared.MachineStep.{MachineStep}
@@ -17,7 +16,7 @@ use Rattle.segment_grammar.specs.declared.potentials.Pot.{Pot}
 use Rattle.segment_grammar.specs.Pots.{pot}
 use Rattle.segment_grammar.specs.Index.{ListsSteps, IsPushFrom, IsPushInto, IsPopAt}
 use Rattle.segment_grammar.proofs.Places.{contains_at, at_contains, same_at, slice_get-below}
-use Rattle.knuth_search.specs.Following.{zero, stepped, IsCovered, IsStepOf, FlatBy, OpenedBy, NestedBy, Enters, Meets, Closes, PushedBy, Fills, SomeStep, SomePot, AtPlace, Among, Offers}
+use Rattle.knuth_search.specs.Following.{zero, stepped, IsCovered, IsStepOf, FlatBy, OpenedBy, NestedBy, Enters, Meets, Closes, PushedBy, Fills, SomePot, AtPlace, Among, Offers}
 use Rattle.knuth_search.proofs.Filed.{covered_itself}
 
 pub contains_head : {X : Type 0} (x : X) (xs : List X) → Contains (x ∷ xs) x
@@ -153,8 +152,12 @@ module _ (steps : List MachineStep) (prev : Pot) (k : StepNo) (inner : Pot) (pus
     }
 
     pub closes_listed : (p : Pot) → Closes steps prev k inner p → (x : StepNo) × Contains list x × NestedBy steps prev k inner x p
-    closes_listed p s = (s.number, step_listed steps (IsPopAt inner.state pushed.frame) list lists s.number
-        (subst (λ t. IsStepOf steps (IsPopAt inner.state t.frame) s.number) (same_at steps k.0 s.gives.meets.enters.push.step pushed s.gives.meets.enters.push.found found) s.gives.meets.pop), s.gives)
+    closes_listed p s = (
+      s.number,
+      step_listed steps (IsPopAt inner.state pushed.frame) list lists s.number
+          (subst (λ t. IsStepOf steps (IsPopAt inner.state t.frame) s.number) (same_at steps k.0 s.gives.meets.enters.push.step pushed s.gives.meets.enters.push.found found) s.gives.meets.pop),
+      s.gives,
+    )
 
 -- the places of the pairs
 module _ (table : List Pot) (R : Pot → Pot → Type 0) (test : Pot → Type 0) (list : List ℕ) (lists : (i : ℕ) (p : Pot) → slice_get table i ≡ Some p → test p → Contains list i)
@@ -177,6 +180,9 @@ into_here steps k r e root f = (f.step, f.found, f.passes.0, root ∙ ap (λ s. 
 pub fills_listed : (steps : List MachineStep) (table : List Pot) (inner : Pot) (e : StateNo) → inner.root ≡ Entry e → (list : List StepNo) → ListsSteps steps (length steps) (IsPushInto e) list
     → (p : Pot) → Fills steps table inner p → (x : StepNo) × Contains list x × SomePot table (λ prev p. Closes steps prev x inner p) p
 fills_listed steps table inner e root list lists p s =
-    let enters : Enters steps s.gives.item s.number inner = s.gives.gives.gives.meets.enters in
-    (s.number, step_listed steps (IsPushInto e) list lists s.number
-      (record { step = enters.push.step; found = enters.push.found; passes = (enters.push.passes.0, entry_same inner.root enters.push.step.to e enters.under root) }), s.gives)
+    let enters : Enters steps s.gives.item s.number inner = s.gives.gives.gives.meets.enters in (
+      s.number,
+      step_listed steps (IsPushInto e) list lists s.number
+          (record { step = enters.push.step; found = enters.push.found; passes = (enters.push.passes.0, entry_same inner.root enters.push.step.to e enters.under root) }),
+      s.gives,
+    )

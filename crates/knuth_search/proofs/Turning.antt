@@ -1,10 +1,9 @@
 -- What the search keeps from turn to turn, and what it has found at the end.
-use Rattle.std.proofs.Common.{◌≡◌, ℕ, ◌+◌, ◌<◌, ◌⊎◌, List, [], ◌∷◌, ◌++◌, length, refl, sym, ◌∙◌, ap, subst, inl, inr, arith, Contains, Some, slice_get}
+use Rattle.std.proofs.Common.{◌≡◌, ℕ, ◌+◌, ◌⊎◌, List, [], ◌∷◌, ◌++◌, refl, sym, ◌∙◌, ap, subst, inl, inr, arith, Contains, Some, slice_get}
 use Rattle.std.specs.List.Sorted.{IsPermutation}
-use Rattle.std.proofs.lemmas.List.Sorted.{Contains-permutation, IsPermutation-sym}
+use Rattle.std.proofs.lemmas.List.Sorted.{Contains-permutation}
 use Rattle.std.proofs.lemmas.List.Elements.{Contains-push, Contains-push_cases, Contains-append_left}
 use Rattle.ml_base.specs.declared.numbers.StateNo.{StateNo}
-use Rattle.ml_base.specs.declared.numbers.StepNo.{StepNo}
 use Rattle.ml_base.specs.declared.numbers.FrameNo.{FrameNo}
 use Rattle.ml_base.specs.declared.numbers.Root.{Root}
 use Rattle.ml_base.specs.declared.numbers.Root.TheVariants.{Request, Entry}
@@ -17,16 +16,16 @@ use Rattle.adapt_machine.specs.declared.MachineStep.{MachineStep}
 use Rattle.adapt_machine.specs.Walks.{system_of, weight_of, cost_found}
 use Rattle.segment_grammar.specs.declared.potentials.Pot.{Pot}
 use Rattle.segment_grammar.specs.Pots.{pot, IsOfPair}
-use Rattle.segment_grammar.specs.Index.{step_no, IsFlatFrom, IsPushFrom, IsPopAt}
-use Rattle.segment_grammar.specs.Reached.{origin_of, IsSegmentUnder, IsReached, IsLeast}
+use Rattle.segment_grammar.specs.Index.{step_no, IsPushFrom, IsPopAt}
+use Rattle.segment_grammar.specs.Reached.{origin_of, IsReached, IsLeast}
 use Rattle.deriv_arena.specs.declared.Deriv.{Deriv}
 use Rattle.deriv_arena.specs.Derivation.{unfolding_of}
 use Rattle.knuth_search.specs.Derived.{Task, IsDerived}
 use Rattle.knuth_search.proofs.Deriving.{derived_segment, derived_weight}
-use Rattle.knuth_search.specs.Following.{zero, stepped, IsCovered, IsStepOf, FlatBy, OpenedBy, NestedBy, Closes, PushedBy, Extends, Fills, SomeStep, SomePot, Offers}
-use Rattle.knuth_search.specs.Searching.{Begins, Follows, Turns, IsComplete}
+use Rattle.knuth_search.specs.Following.{zero, stepped, IsCovered, IsStepOf, NestedBy, Closes, PushedBy, Extends, Fills, SomePot, Offers}
+use Rattle.knuth_search.specs.Searching.{Begins, Turns, IsComplete}
 use Rattle.knuth_search.proofs.Filed.{covered_itself}
-use Rattle.knuth_search.proofs.Offering.{contains_head, contains_tail, contains_cases}
+use Rattle.knuth_search.proofs.Offering.{contains_cases}
 
 -- each start, and all that follows in one step or nest from the table, is in the table or the queue, at no more
 pub record IsSearching (steps : List MachineStep) (starts : List StateNo) (table queue : List Pot) : Type 0 where
@@ -148,7 +147,7 @@ module _ (steps : List MachineStep) (starts : List StateNo) (table : List Pot) (
   extends_rule r x c h w k y s =
       let t : MachineStep = s.0 in
       let next : IsCovered table (pot (root_of r) t.to (stepped w.weight t)) = in_table _ (is.closed (pot (root_of r) x w.weight) (pot (root_of r) t.to (stepped w.weight t)) w.listed
-          (inl (record { number = step_no k; gives = record { step = record { step = t; found = s.1.found; passes = (s.1.is_kind, s.1.leaves) }; is = refl } }))) in
+      (inl (record { number = step_no k; gives = record { step = record { step = t; found = s.1.found; passes = (s.1.is_kind, s.1.leaves) }; is = refl } }))) in
       lighter (root_of r) y (stepped w.weight t) (cap (full (c + cost k) (h + 1))) (subst (λ v. IsCovered table (pot (root_of r) v (stepped w.weight t))) s.1.enters next)
       (stepped_within w.weight c h k t s.1.found w.at_most)
 
@@ -156,7 +155,7 @@ module _ (steps : List MachineStep) (starts : List StateNo) (table : List Pot) (
   opens_rule r x c h w k f y s =
       let t : MachineStep = s.0 in
       let next : IsCovered table (pot (Entry t.to) t.to zero) = in_table _ (is.closed (pot (root_of r) x w.weight) (pot (Entry t.to) t.to zero) w.listed
-          (inr (record { number = step_no k; gives = inl (record { push = record { step = t; found = s.1.found; passes = (s.1.is_kind, s.1.leaves) }; is = refl }) }))) in
+      (inr (record { number = step_no k; gives = inl (record { push = record { step = t; found = s.1.found; passes = (s.1.is_kind, s.1.leaves) }; is = refl }) }))) in
       subst (λ v. IsCovered table (pot (Entry v) v zero)) s.1.enters next
 
   nests_rule : (r : walk.Origin StateNo) (x : StateNo) (c h : ℕ) → Within r x c h → (k : ℕ) (f : FrameNo) (e : StateNo) → (system_of steps).Pushes x k f e
@@ -169,12 +168,12 @@ module _ (steps : List MachineStep) (starts : List StateNo) (table : List Pot) (
       let under : Entry e ≡ Entry t.to = ap (λ v. Entry v) (sym s.1.enters) in
       let pop : IsStepOf steps (IsPopAt y t.frame) (step_no l) = record { step = q; found = o.1.found; passes = (o.1.is_kind, o.1.leaves, o.2 ∙ sym s.2) } in
       let nested : NestedBy steps (pot (root_of r) x w.weight) (step_no k) (pot (Entry e) y i.weight) (step_no l) (pot (root_of r) q.to (stepped base q)) =
-          record { meets = record { enters = record { push = push; under = under }; pop = pop }; is = refl } in
+      record { meets = record { enters = record { push = push; under = under }; pop = pop }; is = refl } in
       let next : IsCovered table (pot (root_of r) q.to (stepped base q)) = in_table _ (is.closed (pot (root_of r) x w.weight) (pot (root_of r) q.to (stepped base q)) w.listed
-          (inr (record { number = step_no k; gives = inr (record { item = pot (Entry e) y i.weight; listed = i.listed; gives = record { number = step_no l; gives = nested } }) }))) in
+      (inr (record { number = step_no k; gives = inr (record { item = pot (Entry e) y i.weight; listed = i.listed; gives = record { number = step_no l; gives = nested } }) }))) in
       let at_base : IsCappedAtMost base (cap (full (c + cost k + d) (h + 1 + g))) =
-          subst (λ v. IsCappedAtMost base v) (sym (cap-total (c + cost k) (h + 1) d g))
-          (capped_total-at_most (stepped w.weight t) (cap (full (c + cost k) (h + 1))) i.weight (cap (full d g)) (stepped_within w.weight c h k t s.1.found w.at_most) i.at_most) in
+      subst (λ v. IsCappedAtMost base v) (sym (cap-total (c + cost k) (h + 1) d g))
+      (capped_total-at_most (stepped w.weight t) (cap (full (c + cost k) (h + 1))) i.weight (cap (full d g)) (stepped_within w.weight c h k t s.1.found w.at_most) i.at_most) in
       lighter (root_of r) z (stepped base q) (cap (full (c + cost k + d + cost l) (h + 1 + g + 1))) (subst (λ v. IsCovered table (pot (root_of r) v (stepped base q))) o.1.enters next)
       (stepped_within base (c + cost k + d) (h + 1 + g) l q o.1.found at_base)
 

@@ -10,7 +10,7 @@ ghost use Rattle.knuth_search.specs.Tables.{pot_of, IsKept};
 
 use crate::derived::Derived;
 use crate::queue::Queue;
-use crate::settle::{settle, Setting};
+use crate::settle::{Setting, settle};
 use crate::table::Table;
 use adapt_machine::Machine;
 use bumpalo::Bump;

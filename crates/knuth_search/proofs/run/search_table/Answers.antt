@@ -1,4 +1,4 @@
-use Rattle.std.proofs.Common.{◌≡◌, ◌∙◌, ◌<◌, subst, sym, ap}
+use Rattle.std.proofs.Common.{◌∙◌, ◌<◌, subst, sym}
 use Rattle.knuth_search.specs.Tables.{pot_of}
 use Rattle.knuth_search.proofs.Turning.{IsSearching, searching_turn, is_complete}
 use Rattle.knuth_search.proofs.run.search_table.Goals as goal
