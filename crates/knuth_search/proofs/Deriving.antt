@@ -1,8 +1,7 @@
 -- Derivations of what follows from derived pairs.
-use Rattle.std.proofs.Common.{◌≡◌, ℕ, ◌+◌, ◌<◌, List, [], length, refl, sym, ◌∙◌, ap, subst, Contains, Some, slice_get}
+use Rattle.std.proofs.Common.{◌≡◌, ℕ, ◌<◌, List, [], refl, sym, ◌∙◌, ap, subst, Contains, Some, slice_get}
 use Rattle.ml_base.specs.declared.numbers.StateNo.{StateNo}
 use Rattle.ml_base.specs.declared.numbers.StepNo.{StepNo}
-use Rattle.ml_base.specs.declared.numbers.FrameNo.{FrameNo}
 use Rattle.ml_base.specs.declared.numbers.Root.{Root}
 use Rattle.ml_base.specs.declared.numbers.Root.TheVariants.{Request, Entry}
 use Rattle.ml_base.specs.declared.weight.Weight.{Weight}
@@ -10,9 +9,7 @@ use Rattle.ml_base.specs.Weight.{cap, capped_total}
 use Rattle.walk_grammar.specs.System as walk
 use Rattle.walk_grammar.proofs.Found.{IsFound, found_opens}
 use Rattle.adapt_machine.specs.declared.MachineStep.{MachineStep}
-use Rattle.adapt_machine.specs.declared.MachineKind.{MachineKind}
-use Rattle.adapt_machine.specs.declared.MachineKind.TheVariants.{Flat, Push, Pop}
-use Rattle.adapt_machine.specs.Walks.{IsStep, cost_found, system_of, weight_of, full_weight_of}
+use Rattle.adapt_machine.specs.Walks.{cost_found, system_of, weight_of, full_weight_of}
 use Rattle.segment_grammar.specs.declared.potentials.Pot.{Pot}
 use Rattle.segment_grammar.specs.Pots.{pot}
 use Rattle.segment_grammar.specs.Index.{IsFlatFrom, IsPushFrom, IsPopAt}
@@ -22,8 +19,8 @@ use Rattle.deriv_arena.specs.declared.Deriv.{Deriv}
 use Rattle.deriv_arena.specs.Derivation.{unfolding_of, IsOver, Rests, Extends, Encloses, Nests, step_weight}
 use Rattle.deriv_arena.proofs.Segments.{form_segment}
 use Rattle.deriv_arena.proofs.Weights.{form_weight}
-use Rattle.knuth_search.specs.Derived.{Task, BeginsAt, IsDerived, IsPotWithin}
-use Rattle.knuth_search.specs.Following.{zero, stepped, IsStepOf, Enters, Meets}
+use Rattle.knuth_search.specs.Derived.{Task, BeginsAt, IsDerived}
+use Rattle.knuth_search.specs.Following.{zero, stepped, IsStepOf, Meets}
 
 module _ (task : Task) where
   abbrev steps : List MachineStep
@@ -109,16 +106,18 @@ module _ (task : Task) where
 
 -- the steps leave where the derivations end
 pub keeps_there : (steps : List MachineStep) (prev : Pot) (d : Deriv) → d.last ≡ prev.state → (k : StepNo) → (f : IsStepOf steps (IsFlatFrom prev.state) k) → (y : StateNo) × (system_of steps).Keeps d.last k.0 y
-keeps_there steps prev d last k f = (f.step.to, (f.step, record { found = f.found; is_kind = f.passes.0; leaves = f.passes.1 ∙ sym last; enters = refl }))
+keeps_there all prev d last k f = (f.step.to, (f.step, record { found = f.found; is_kind = f.passes.0; leaves = f.passes.1 ∙ sym last; enters = refl }))
 
 pub encloses_there : (task : Task) (steps : List MachineStep) (prev inner : Pot) (d e : Deriv) → d.last ≡ prev.state → e.last ≡ inner.state → BeginsAt task inner.root e.first
     → (k l : StepNo) → (meets : Meets steps prev k inner l) → (z : StateNo) × Encloses steps d k.0 e l.0 z
 encloses_there task steps prev inner d e last inner_last begins k l meets =
     let push : IsStepOf steps (IsPushFrom prev.state) k = meets.enters.push in
     let pop : IsStepOf steps (IsPopAt inner.state meets.enters.push.step.frame) l = meets.pop in
-    let at : BeginsAt task (Entry meets.enters.push.step.to) e.first = subst (λ r. BeginsAt task r e.first) meets.enters.under begins in
-    (pop.step.to, record {
-      frame = push.step.frame;
-      pushes = (push.step, record { found = push.found; is_kind = push.passes.0; leaves = push.passes.1 ∙ sym last; enters = sym at.0 }, refl);
-      pops = (pop.step, record { found = pop.found; is_kind = pop.passes.0; leaves = pop.passes.1 ∙ sym inner_last; enters = refl }, pop.passes.2);
-    })
+    let at : BeginsAt task (Entry meets.enters.push.step.to) e.first = subst (λ r. BeginsAt task r e.first) meets.enters.under begins in (
+      pop.step.to,
+      record {
+        frame = push.step.frame;
+        pushes = (push.step, record { found = push.found; is_kind = push.passes.0; leaves = push.passes.1 ∙ sym last; enters = sym at.0 }, refl);
+        pops = (pop.step, record { found = pop.found; is_kind = pop.passes.0; leaves = pop.passes.1 ∙ sym inner_last; enters = refl }, pop.passes.2);
+      },
+    )

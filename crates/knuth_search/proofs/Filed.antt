@@ -1,14 +1,13 @@
 -- The rows and the map of a table when a pair is added or replaced.
-use Rattle.std.proofs.Common.{◌≡◌, ◌≢◌, ℕ, ◌+◌, ◌<◌, ◌⊎◌, List, [], ◌∷◌, ◌++◌, length, map, refl, sym, ◌∙◌, ap, subst, inl, inr, arith, Contains, Some, None, Option, slice_get, zero, suc}
+use Rattle.std.proofs.Common.{◌≡◌, ◌≢◌, ℕ, ◌<◌, ◌⊎◌, List, [], ◌∷◌, ◌++◌, length, map, refl, sym, ◌∙◌, ap, subst, inl, inr, Contains, Some, Option, slice_get, zero, suc}
 use Rattle.std.specs.Prelude.{Bool, true, false, cond, IsTrue, ◌↔◌}
-use Rattle.std.proofs.Math.ListN.{set, get_or, length-set}
+use Rattle.std.proofs.Math.ListN.{length-set}
 use Rattle.std.proofs.lemmas.Bool.{cases_eq}
-use Rattle.std.proofs.lemmas.List.{get_or-set_same, get_or-set_other, map-set, map-append, length-map}
-use Rattle.std.proofs.lemmas.List.Elements.{Contains-push, Contains-push_cases, Contains-append_left, All-append, All-cons, All-nil, All-set}
-use Rattle.std.proofs.lemmas.Option.{slice_get-get_or, get_or_from_slice_get}
+use Rattle.std.proofs.lemmas.List.{get_or-set_same, get_or-set_other, map-append, length-map}
+use Rattle.std.proofs.lemmas.List.Elements.{Contains-push, Contains-push_cases, Contains-append_left, All-append, All-cons, All-nil}
 use Rattle.ml_base.specs.declared.numbers.StateNo.{StateNo}
 use Rattle.ml_base.specs.declared.numbers.Root.{Root}
-use Rattle.ml_base.specs.declared.numbers.Root.TheVariants.{Request, Entry}
+use Rattle.ml_base.specs.declared.numbers.Root.TheVariants.{Entry}
 use Rattle.ml_base.specs.declared.weight.Weight.{Weight}
 use Rattle.ml_base.specs.Weight.{IsCappedAtMost}
 use Rattle.ml_base.proofs.Laws.{at_most-same, at_most-either}
@@ -17,7 +16,7 @@ use Rattle.segment_grammar.specs.Pots.{pot, IsOfPair}
 use Rattle.segment_grammar.specs.Rows.{row_of, with_item}
 use Rattle.segment_grammar.proofs.Numbering.{bool_cases}
 use Rattle.segment_grammar.proofs.Rising.{refuted}
-use Rattle.segment_grammar.proofs.Places.{slice_get-below, contains_at, at_contains, same_at, pushed_at, set_at}
+use Rattle.segment_grammar.proofs.Places.{pushed_at}
 use Rattle.knuth_search.specs.declared.derived.Derived.{Derived}
 use Rattle.knuth_search.specs.Derived.{Task}
 use Rattle.knuth_search.specs.Following.{IsCovered}

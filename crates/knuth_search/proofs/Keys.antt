@@ -1,6 +1,6 @@
 -- Pairs of a root and a state as keys of a map.
-use Rattle.std.proofs.Common.{◌≡◌, ◌≢◌, ℕ, ◌<◌, ◌⊎◌, List, refl, sym, ◌∙◌, ap, subst, inl, inr, arith, Contains, Some, None, Option, slice_get, length}
-use Rattle.std.specs.Prelude.{Bool, true, false, cond}
+use Rattle.std.proofs.Common.{◌≡◌, ℕ, List, refl, ◌∙◌, ap, subst, arith, Contains, Some, None, Option, slice_get}
+use Rattle.std.specs.Prelude.{Bool, true}
 use Rattle.std.specs.Ordering.{nat_cmp, ordering_then, is_eq}
 use Rattle.std.specs.Option.{option_cmp}
 use Rattle.std.proofs.lemmas.Grind.{common_steps}
@@ -10,8 +10,7 @@ use Rattle.ml_base.specs.declared.numbers.Root.TheVariants.{Request, Entry}
 use Rattle.ml_base.specs.Weight.{IsCappedAtMost}
 use Rattle.segment_grammar.specs.declared.potentials.Pot.{Pot}
 use Rattle.segment_grammar.specs.Pots.{IsOfPair}
-use Rattle.segment_grammar.proofs.Numbering.{bool_cases}
-use Rattle.segment_grammar.proofs.Places.{at_contains, same_at}
+use Rattle.segment_grammar.proofs.Places.{same_at}
 use Rattle.knuth_search.specs.Tables.{root_key, place_in, IsPlaced}
 
 abbrev pub IsKey : Option ℕ → ℕ → Option ℕ → ℕ → Bool
@@ -46,10 +45,11 @@ module _ (pots : List Pot) (places : List ((Option ℕ × ℕ) × ℕ)) (root : 
   pub placed_as : (p : Pot) → Contains pots p → IsOfPair p root state → (place : ℕ) × (place_in places (root_key root) state.0 ≡ Some place)
       × ((item : Pot) × (slice_get pots place ≡ Some item) × IsOfPair item root state × IsCappedAtMost item.weight p.weight)
   placed_as p c same =
-      let is : IsPlaced places pots p = placed p c in
-      (is.place,
+      let is : IsPlaced places pots p = placed p c in (
+        is.place,
         subst (λ r. place_in places (root_key r) state.0 ≡ Some is.place) same.0 (subst (λ s. place_in places (root_key p.root) s.0 ≡ Some is.place) same.1 is.found),
-        (is.item, is.stands, (is.same.0 ∙ same.0, is.same.1 ∙ same.1), is.at_most))
+        (is.item, is.stands, (is.same.0 ∙ same.0, is.same.1 ∙ same.1), is.at_most),
+      )
 
   pub none_keyed : place_in places (root_key root) state.0 ≡ None → (p : Pot) → Contains pots p → IsOfPair p root state → ⊥
   none_keyed gone p c same = differs (placed_as p c same).0 (placed_as p c same).1

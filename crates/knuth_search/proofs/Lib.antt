@@ -3,3 +3,4 @@ pub mod Keys
 pub mod Filed
 pub mod Deriving
 pub mod Offering
+pub mod Turning

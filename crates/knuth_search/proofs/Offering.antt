@@ -1,20 +1,22 @@
 -- Candidates that are offered.
-use Rattle.std.proofs.Common.{◌≡◌, ℕ, ◌+◌, ◌<◌, ◌⊎◌, List, [], ◌∷◌, length, refl, sym, ◌∙◌, ap, subst, inl, inr, arith, Contains, Some, None, slice_get, zero as nought, suc, slice_index_or}
+use Rattle.std.proofs.Common.{◌≡◌, ℕ, ◌+◌, ◌<◌, ◌⊎◌, List, ◌∷◌, length, refl, sym, ◌∙◌, ap, subst, inl, inr, arith, Contains, Some, None, slice_get, zero as nought, suc, slice_index_or}
 use Rattle.std.specs.List.Sorted.{IsPermutation}
-use Rattle.std.proofs.lemmas.List.Sorted.{Contains-permutation, IsPermutation-sym}
+use Rattle.std.proofs.lemmas.List.Sorted.{Contains-permutation}
 use Rattle.std.proofs.lemmas.Bool.{cases_lt}
 use Rattle.std.proofs.Math.ListN.{get_or}
-use Rattle.std.proofs.lemmas.Option.{slice_get-get_or}
 use Rattle.ml_base.specs.declared.numbers.StepNo.{StepNo}
-use Rattle.ml_base.specs.declared.numbers.Root.TheVariants.{Request, Entry}
+use Rattle.ml_base.specs.declared.numbers.StateNo.{StateNo}
+use Rattle.ml_base.specs.declared.numbers.Root.{Root}
+use Rattle.adapt_machine.specs.declared.MachineKind.TheVariants.{Push}
+use Rattle.ml_base.specs.declared.numbers.Root.TheVariants.{Entry}
 use Rattle.ml_base.specs.declared.weight.Weight.{Weight}
 use Rattle.ml_base.specs.Weight.{capped_total}
 use Rattle.adapt_machine.specs.declared.MachineStep.{MachineStep}
 use Rattle.segment_grammar.specs.declared.potentials.Pot.{Pot}
 use Rattle.segment_grammar.specs.Pots.{pot}
-use Rattle.segment_grammar.specs.Index.{ListsSteps}
+use Rattle.segment_grammar.specs.Index.{ListsSteps, IsPushFrom, IsPushInto, IsPopAt}
 use Rattle.segment_grammar.proofs.Places.{contains_at, at_contains, same_at, slice_get-below}
-use Rattle.knuth_search.specs.Following.{zero, stepped, IsCovered, IsStepOf, FlatBy, OpenedBy, NestedBy, SomeStep, SomePot, AtPlace, Among, Offers}
+use Rattle.knuth_search.specs.Following.{zero, stepped, IsCovered, IsStepOf, FlatBy, OpenedBy, NestedBy, Enters, Meets, Closes, PushedBy, Fills, SomePot, AtPlace, Among, Offers}
 use Rattle.knuth_search.proofs.Filed.{covered_itself}
 
 pub contains_head : {X : Type 0} (x : X) (xs : List X) → Contains (x ∷ xs) x
@@ -125,3 +127,62 @@ listed_step steps n test list lists i k at =
 
 pub step_listed : (steps : List MachineStep) (test : MachineStep → Type 0) (list : List StepNo) → ListsSteps steps (length steps) test list → (k : StepNo) (f : IsStepOf steps test k) → Contains list k
 step_listed steps test list lists k f = lists.all k.0 f.step (slice_get-below steps k.0 f.step f.found) f.found f.passes
+
+-- the pops of the pushed frame
+module _ (steps : List MachineStep) (prev : Pot) (k : StepNo) (inner : Pot) (pushed : MachineStep) (found : slice_get steps k.0 ≡ Some pushed) where
+  pub enters_here : IsStepOf steps (IsPushFrom prev.state) k → inner.root ≡ Entry pushed.to → Enters steps prev k inner
+  enters_here f under = record { push = f; under = under ∙ ap (λ t. Entry t.to) (same_at steps k.0 pushed f.step found f.found) }
+
+  pub under_here : Enters steps prev k inner → inner.root ≡ Entry pushed.to
+  under_here e = e.under ∙ ap (λ t. Entry t.to) (same_at steps k.0 e.push.step pushed e.push.found found)
+
+  pub fill_enters : (t : MachineStep) × (slice_get steps k.0 ≡ Some t) × (t.kind ≡ Push) × (inner.root ≡ Entry t.to) → prev.state ≡ pushed.from → Enters steps prev k inner
+  fill_enters into from =
+      let same : into.0 ≡ pushed = same_at steps k.0 into.0 pushed into.1 found in
+      record { push = record { step = pushed; found = found; passes = (subst (λ t. t.kind ≡ Push) same into.2, sym from) }; under = into.3 ∙ ap (λ t. Entry t.to) same }
+
+  pub from_here : Enters steps prev k inner → prev.state ≡ pushed.from
+  from_here e = sym e.push.passes.1 ∙ ap (λ t. t.from) (same_at steps k.0 e.push.step pushed e.push.found found)
+
+  module _ (list : List StepNo) (lists : ListsSteps steps (length steps) (IsPopAt inner.state pushed.frame) list) where
+    pub meets_listed : Enters steps prev k inner → (i : ℕ) (l : StepNo) → slice_get list i ≡ Some l → Meets steps prev k inner l
+    meets_listed e i l at = record {
+      enters = e;
+      pop = subst (λ t. IsStepOf steps (IsPopAt inner.state t.frame) l) (same_at steps k.0 pushed e.push.step found e.push.found) (listed_step steps (length steps) (IsPopAt inner.state pushed.frame) list lists i l at);
+    }
+
+    pub closes_listed : (p : Pot) → Closes steps prev k inner p → (x : StepNo) × Contains list x × NestedBy steps prev k inner x p
+    closes_listed p s = (
+      s.number,
+      step_listed steps (IsPopAt inner.state pushed.frame) list lists s.number
+          (subst (λ t. IsStepOf steps (IsPopAt inner.state t.frame) s.number) (same_at steps k.0 s.gives.meets.enters.push.step pushed s.gives.meets.enters.push.found found) s.gives.meets.pop),
+      s.gives,
+    )
+
+-- the places of the pairs
+module _ (table : List Pot) (R : Pot → Pot → Type 0) (test : Pot → Type 0) (list : List ℕ) (lists : (i : ℕ) (p : Pot) → slice_get table i ≡ Some p → test p → Contains list i)
+    (tests : (item p : Pot) → R item p → test item) where
+  pub places_listed : (p : Pot) → SomePot table R p → (i : ℕ) × Contains list i × AtPlace table R i p
+  places_listed p s =
+      let at : (i : ℕ) × (i < length table) × (slice_get table i ≡ Some s.item) = at_contains table s.item s.listed in
+      (at.0, lists at.0 s.item at.2 (tests s.item p s.gives), record { item = s.item; found = at.2; gives = s.gives })
+
+pub pushed_step : (steps : List MachineStep) (table : List Pot) (prev : Pot) (k : StepNo) (p : Pot) → PushedBy steps table prev k p → IsStepOf steps (IsPushFrom prev.state) k
+pushed_step steps table prev k p (inl o) = o.push
+pushed_step steps table prev k p (inr s) = s.gives.gives.meets.enters.push
+
+entry_same : (r : Root) (a b : StateNo) → r ≡ Entry a → r ≡ Entry b → a ≡ b
+entry_same r a b p q = cc
+
+pub into_here : (steps : List MachineStep) (k : StepNo) (r : Root) (e : StateNo) → r ≡ Entry e → IsStepOf steps (IsPushInto e) k → (t : MachineStep) × (slice_get steps k.0 ≡ Some t) × (t.kind ≡ Push) × (r ≡ Entry t.to)
+into_here steps k r e root f = (f.step, f.found, f.passes.0, root ∙ ap (λ s. Entry s) (sym f.passes.1))
+
+pub fills_listed : (steps : List MachineStep) (table : List Pot) (inner : Pot) (e : StateNo) → inner.root ≡ Entry e → (list : List StepNo) → ListsSteps steps (length steps) (IsPushInto e) list
+    → (p : Pot) → Fills steps table inner p → (x : StepNo) × Contains list x × SomePot table (λ prev p. Closes steps prev x inner p) p
+fills_listed steps table inner e root list lists p s =
+    let enters : Enters steps s.gives.item s.number inner = s.gives.gives.gives.meets.enters in (
+      s.number,
+      step_listed steps (IsPushInto e) list lists s.number
+          (record { step = enters.push.step; found = enters.push.found; passes = (enters.push.passes.0, entry_same inner.root enters.push.step.to e enters.under root) }),
+      s.gives,
+    )

@@ -5,7 +5,6 @@ use Rattle.ml_base.specs.declared.numbers.StateNo.{StateNo}
 use Rattle.ml_base.specs.declared.numbers.Root.{Root}
 use Rattle.ml_base.specs.declared.numbers.Root.TheVariants.{Request, Entry}
 use Rattle.adapt_machine.specs.Machine.{MachineValue}
-use Rattle.adapt_machine.specs.declared.MachineStep.{MachineStep}
 use Rattle.segment_grammar.specs.declared.potentials.Pot.{Pot}
 use Rattle.segment_grammar.specs.Reached.{IsEntered}
 use Rattle.deriv_arena.specs.declared.Deriv.{Deriv}

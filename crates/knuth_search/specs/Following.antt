@@ -1,8 +1,7 @@
 -- What follows from settled pairs in one step or one nest.
 use Rattle.std.specs.Prelude.{◌≡◌, ℕ, ◌<◌, ◌⊎◌, List, slice_get, Some}
 use Rattle.std.specs.List.{Contains}
-use Rattle.ml_base.specs.declared.numbers.Root.{Root}
-use Rattle.ml_base.specs.declared.numbers.Root.TheVariants.{Request, Entry}
+use Rattle.ml_base.specs.declared.numbers.Root.TheVariants.{Entry}
 use Rattle.ml_base.specs.declared.numbers.StepNo.{StepNo}
 use Rattle.ml_base.specs.declared.weight.Weight.{Weight}
 use Rattle.ml_base.specs.Weight.{cap, capped_total, IsCappedAtMost}

@@ -3,10 +3,12 @@
 
 mod derived;
 mod queue;
+mod run;
 mod settle;
 mod table;
 
 pub use derived::Derived;
 pub use queue::Queue;
+pub use run::search_table;
 pub use settle::Setting;
 pub use table::Table;

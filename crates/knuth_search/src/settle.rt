@@ -344,7 +344,14 @@ fn fill_by<'m, 'a>(
     let pushed = setting.machine.step(number);
     let places = table.at(pushed.from);
     for number_of_place in 0..places.len() {
-        fill_at(setting, table, queue, inner, number, places[number_of_place])?;
+        fill_at(
+            setting,
+            table,
+            queue,
+            inner,
+            number,
+            places[number_of_place],
+        )?;
     }
     Ok(())
 }

@@ -6,12 +6,13 @@ ghost use Rattle.ml_base.specs.declared.numbers.Root.TheVariants.{Entry};
 ghost use Rattle.segment_grammar.specs.declared.potentials.Pot.{Pot};
 ghost use Rattle.segment_grammar.specs.Pots.{pot, IsOfPair};
 ghost use Rattle.segment_grammar.specs.Rows.{row_of};
-ghost use Rattle.knuth_search.specs.Derived.{IsPotWithin, IsRootWithin};
+ghost use Rattle.knuth_search.specs.Derived.{IsRootWithin, IsDerived};
 ghost use Rattle.knuth_search.specs.Following.{IsCovered};
 ghost use Rattle.knuth_search.specs.Tables.{pot_of, IsKept, root_key, ListsPlaces, KeepsRows};
 
 use crate::derived::Derived;
 use adapt_machine::Machine;
+use deriv_arena::Deriv;
 use ml_base::{NoMemory, Root, StateNo};
 use segment_grammar::{Pot, Rows};
 use std::alloc::Global;
@@ -132,6 +133,7 @@ impl<'m, 'a> Table<'m, 'a> {
 
     fn least(&self, root: Root, state: StateNo) -> Option<Derived<'a>>
         ensures some { IfSome result (λ d. IsOfPair (pot_of d) root state × Contains self.now.pots (pot_of d)) }
+        ensures kept { IfSome result (λ d. IsKept self.now.task d) }
         ensures least { IfSome result (λ d. (p : Pot) → Contains self.now.pots p → IsOfPair p root state → IsCappedAtMost d.weight p.weight) }
         ensures none { IfNone result ((p : Pot) → Contains self.now.pots p → IsOfPair p root state → ⊥) }
     {
@@ -145,6 +147,18 @@ impl<'m, 'a> Table<'m, 'a> {
             return None;
         }
         Some(item)
+    }
+
+    /// A derivation of the pair, of the least listed weight, or None exactly where the pair is not listed.
+    pub fn derivation(&self, root: Root, state: StateNo) -> Option<&'a Deriv<'a>>
+        ensures some { IfSome result (λ d. IsDerived self.now.task (pot root state d.now.weight) d.now) }
+        ensures least { IfSome result (λ d. (p : Pot) → Contains self.now.pots p → IsOfPair p root state → IsCappedAtMost d.now.weight p.weight) }
+        ensures none { IfNone result ((p : Pot) → Contains self.now.pots p → IsOfPair p root state → ⊥) }
+    {
+        let Some(item) = self.least(root, state) else {
+            return None;
+        };
+        Some(item.deriv)
     }
 
     /// Whether the pair is listed at no more than this weight.

@@ -1,5 +1,5 @@
 use Rattle.std.proofs.Common.{◌≡◌}
-use Rattle.knuth_search.specs.Following.{FlatBy, NestedBy, Closes, PushedBy, SomePot, AtPlace, Among, Offers}
+use Rattle.knuth_search.specs.Following.{NestedBy, Among, Offers}
 use Rattle.knuth_search.specs.Tables.{pot_of}
 use Rattle.knuth_search.proofs.settle.close.Given as goal
 

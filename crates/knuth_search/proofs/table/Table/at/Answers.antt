@@ -1,6 +1,5 @@
 use Rattle.std.proofs.Common.{sym, subst, ◌≡◌, ◌<◌, ap, map}
 use Rattle.segment_grammar.specs.Rows.{row_of}
-use Rattle.ml_base.specs.declared.numbers.Root.TheVariants.{Entry}
 use Rattle.knuth_search.specs.Tables.{ListsPlaces, pot_of}
 use Rattle.knuth_search.proofs.table.Table.at.Goals as goal
 

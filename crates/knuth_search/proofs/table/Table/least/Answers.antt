@@ -1,5 +1,4 @@
-use Rattle.std.proofs.Common.{◌≡◌, Some, None, rules, subst, ap, map, sym, ◌∙◌, Contains, slice_get}
-use Rattle.segment_grammar.specs.declared.potentials.Pot.{Pot}
+use Rattle.std.proofs.Common.{◌≡◌, Some, None, rules, subst, ap, map}
 use Rattle.segment_grammar.specs.Pots.{IsOfPair}
 use Rattle.segment_grammar.proofs.Places.{contains_at, same_at}
 use Rattle.segment_grammar.proofs.Rising.{accepted, refuted}
