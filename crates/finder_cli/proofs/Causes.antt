@@ -39,7 +39,7 @@ refused-code before after word a (inr (inl m)) = inl (ap code_of m.is)
 refused-code before after word a (inr (inr m)) = inr (ap code_of m.is)
 
 early-code : (before after : Store) (words : List FileWord) (a : Reply) → EndsEarly before after words a → (code_of a ≡ 5) ⊎ ((code_of a ≡ 11) ⊎ (code_of a ≡ 3))
-early-code before after words a (inl e) = elim (refused-code before after e.item a e.ends) [ | inl five ↦ inl five | inr eleven ↦ inr (inl eleven) ]
+early-code before after words a (inl e) = elim (refused-code before after e.item a e.ends) [ inl five ↦ inl five | inr eleven ↦ inr (inl eleven) ]
 early-code before after words a (inr p) = inr (inr (ap code_of p.faulty.ends.is))
 
 rejected-code : (T : Topology) (a : Reply) → IsRejected T a → code_of a ≡ 3
@@ -83,10 +83,10 @@ replies-late (Survey files) T a p = survey-late T a p
 
 not-two : (before after : Store) (command : Command) (a : Reply) → CommandAnswers (Some command) before after a → code_of a ≢ 2
 not-two before after command a (inl e) = λ two. elim (early-code before after (files_named command) a e) [
-    | inl five ↦ absurd (omega arith)
-    | inr (inl eleven) ↦ absurd (omega arith)
-    | inr (inr three) ↦ absurd (omega arith)
-  ]
+  | inl five ↦ absurd (omega arith)
+  | inr (inl eleven) ↦ absurd (omega arith)
+  | inr (inr three) ↦ absurd (omega arith)
+]
 not-two before after command a (inr (T, are, inl p)) = λ two. let three : code_of a ≡ 3 = rejected-code T a p in absurd (omega arith)
 not-two before after command a (inr (T, are, inr p)) = (replies-late command T a p.1).two
 
@@ -130,6 +130,7 @@ not-read words command before after a spelled (inl (inl e)) five = by-cause e.en
   where
     named : Contains (files_named command) e.item
     named = within e.earlier e.item e.later (files_named command) e.split
+
     by-cause : IsRefused before after e.item a → IsNotRead words before after
     by-cause (inl m) = record { command = command; spelled = spelled; file = e.item; named = named; cause = inl (m.read, m.cause) }
     by-cause (inr (inl m)) = record { command = command; spelled = spelled; file = e.item; named = named; cause = inr (m.read, m.cause) }
@@ -143,6 +144,7 @@ too-large words command before after a spelled (inl (inl e)) eleven = by-cause e
   where
     named : Contains (files_named command) e.item
     named = within e.earlier e.item e.later (files_named command) e.split
+
     by-cause : IsRefused before after e.item a → IsTooLarge words before after
     by-cause (inl m) = let five : code_of a ≡ 5 = ap code_of m.is in absurd (omega arith)
     by-cause (inr (inl m)) = let five : code_of a ≡ 5 = ap code_of m.is in absurd (omega arith)

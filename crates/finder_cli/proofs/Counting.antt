@@ -41,6 +41,7 @@ count-within test (x ∷ xs) = by-test (test x) refl
   where
     rest : length (filter test xs) ≤ length xs
     rest = count-within test xs
+
     by-test : (b : Bool) → test x ≡ b → length (filter test (x ∷ xs)) ≤ suc (length xs)
     by-test true e = rw e (omega (arith, rest))
     by-test false e = rw e (omega (arith, rest))

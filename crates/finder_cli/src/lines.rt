@@ -51,11 +51,7 @@ pub(crate) fn make_unknown_port_line(alloc: Global, id: &Id) -> Result<Text, NoM
 }
 
 #[tactic(auto, unfolding(crate::specs::Lines::label_not_here_line))]
-pub(crate) fn make_label_not_here_line(
-    alloc: Global,
-    id: &Id,
-    label: u32,
-) -> Result<Text, NoMemory>
+pub(crate) fn make_label_not_here_line(alloc: Global, id: &Id, label: u32) -> Result<Text, NoMemory>
     ensures { IfOk result (λ line. line ≡ label_not_here_line id.now label) }
 {
     let mut line = Line::new();

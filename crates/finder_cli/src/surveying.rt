@@ -118,15 +118,16 @@ fn push_counts(alloc: Global, lines: &mut Texts, inventory: &Inventory) -> Resul
     push_count(alloc, lines, b"classes ", classes as u64)?;
     push_count(alloc, lines, b"links ", counts.links)?;
     push_count(alloc, lines, b"services ", counts.services)?;
-    push_count(alloc, lines, b"open-references ", inventory.open_references())?;
+    push_count(
+        alloc,
+        lines,
+        b"open-references ",
+        inventory.open_references(),
+    )?;
     Ok(classes)
 }
 
-fn survey_in(
-    alloc: Global,
-    mut lines: Texts,
-    inventory: &Inventory,
-) -> Result<Reply, NoMemory>
+fn survey_in(alloc: Global, mut lines: Texts, inventory: &Inventory) -> Result<Reply, NoMemory>
     requires { lines ≡ heading inventory.now }
     ensures { IfOk result (IsSurvey inventory.now) }
 {

@@ -25,7 +25,9 @@ pub enum Command {
         potentials: bool,
     },
     /// The counts of these topology files.
-    Survey { files: NameList },
+    Survey {
+        files: NameList,
+    },
 }
 
 /// An end of a request.

@@ -10,7 +10,6 @@ mod members;
 mod numbers;
 mod related;
 mod services;
-
 #[cfg(test)]
 mod tests;
 
