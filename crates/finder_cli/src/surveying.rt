@@ -60,6 +60,7 @@ fn counted(counts: Counts, element: &Element) -> Counts
 
 /// The counts with the element of this number.
 fn counted_at(inventory: &Inventory, number: u64, counts: Counts) -> Counts
+    requires fits { number < 2 ^ 64 - 1 }
     requires within { number < length (elements_of inventory.now) }
     requires links { counts.links ≡ links_in (take number (elements_of inventory.now)) }
     requires services { counts.services ≡ services_in (take number (elements_of inventory.now)) }

@@ -1,6 +1,0 @@
-pub mod Heaps
-pub mod Keys
-pub mod Filed
-pub mod Deriving
-pub mod Offering
-pub mod Turning

@@ -1,4 +1,0 @@
-pub mod Derived
-pub mod Following
-pub mod Tables
-pub mod Searching
