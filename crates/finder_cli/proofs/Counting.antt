@@ -36,9 +36,9 @@ count-at test xs n k m e at before now = by-item (slice_get xs n) refl at
 -- there is an element at each number
 pub count-none : (xs : List Placed) (n : ℕ) → n < length xs → option_map (λ (p : Placed). p.element) (slice_get xs n) ≡ None → ⊥
 count-none xs n lt none = elim (slice_get_cases xs n).1 [
-    | inl some ↦ let e : option_map (λ (p : Placed). p.element) (Some some.0) ≡ None = sym (ap (option_map (λ (p : Placed). p.element)) some.2) ∙ none in absurd cc
-    | inr past ↦ absurd (omega (arith, past.0))
-  ]
+  | inl some ↦ let e : option_map (λ (p : Placed). p.element) (Some some.0) ≡ None = sym (ap (option_map (λ (p : Placed). p.element)) some.2) ∙ none in absurd cc
+  | inr past ↦ absurd (omega (arith, past.0))
+]
 
 most-by : (test : Placed → Bool) (x : Placed) (xs : List Placed) (b : Bool) → test x ≡ b → length (filter test xs) ≤ length xs → length (filter test (x ∷ xs)) ≤ suc (length xs)
 most-by test x xs true e rest = rw e (omega (arith, rest))

@@ -20,3 +20,6 @@ pub use reply::{Reply, Status, Stop, print};
 pub use text::{Text, Texts};
 pub use top::run;
 pub use words::{Command, End, NameList, WordsFault, parse_words};
+
+#[cfg(test)]
+mod tests;
