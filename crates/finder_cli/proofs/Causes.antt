@@ -1,11 +1,10 @@
 -- The causes of the statuses 2, 3, 5 and 11.
-use Rattle.std.proofs.Common.{◌≡◌, ◌≢◌, ◌∙◌, ◌↔◌, sym, refl, ap, subst, ℕ, ◌+◌, List, [], ◌∷◌, ◌++◌, Option, Some, None, IsSome, ◌⊎◌, inl, inr, arith, append_assoc}
+use Rattle.std.proofs.Common.{◌≡◌, ◌≢◌, ◌∙◌, ◌↔◌, sym, refl, ap, subst, ℕ, List, [], ◌∷◌, ◌++◌, Option, Some, None, IsSome, ◌⊎◌, inl, inr, arith, append_assoc}
 use Rattle.std.specs.Prelude.{Contains}
 use Rattle.std.proofs.lemmas.Bool.{false≢true}
 use Rattle.std.proofs.lemmas.List.Elements.{Contains-append_left, Contains-push}
 use Rattle.io_edges.specs.Counts.{Rose}
 use Rattle.io_edges.specs.Reads.{Store, Contents}
-use Rattle.nml_elements.specs.declared.elements.Domain.{Domain}
 use Rattle.circuit_spec.specs.declared.hops.Outcome.{Outcome}
 use Rattle.circuit_spec.specs.declared.hops.Outcome.TheVariants.{Found, NoWalk, Past, Long}
 use Rattle.circuit_spec.specs.declared.hops.Request.{Request}
@@ -16,10 +15,10 @@ use Rattle.finder_cli.specs.declared.reply.Reply.{Reply}
 use Rattle.finder_cli.specs.declared.words.Command.{Command}
 use Rattle.finder_cli.specs.declared.words.Command.TheVariants.{Find, Survey}
 use Rattle.finder_cli.specs.Accepting.{IsRejected, IfAccepted}
-use Rattle.finder_cli.specs.Answers.{files_named, Replies, CommandAnswers, Answers}
-use Rattle.finder_cli.specs.Finding.{IsFound, IsFoundIn}
-use Rattle.finder_cli.specs.Reading.{EndsEarly, IsDomain, IsFaulty, IsRead, IsRefused, OverFiles, file_words}
-use Rattle.finder_cli.specs.Sentences.{Tells, Ran, AreReadFor, FindsFault, FindsUsage, IsNotRead, IsTooLarge}
+use Rattle.finder_cli.specs.Answers.{files_named, Replies, CommandAnswers}
+use Rattle.finder_cli.specs.Finding.{IsFound}
+use Rattle.finder_cli.specs.Reading.{EndsEarly, IsDomain, IsFaulty, IsRefused}
+use Rattle.finder_cli.specs.Sentences.{Ran, AreReadFor, FindsFault, FindsUsage, IsNotRead, IsTooLarge}
 use Rattle.finder_cli.specs.Status.{code, status_of}
 use Rattle.finder_cli.specs.Surveying.{IsSurvey}
 use Rattle.finder_cli.specs.Through.{Each, Ends}

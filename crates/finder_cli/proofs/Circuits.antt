@@ -1,5 +1,5 @@
 -- What stands in the text after status 0.
-use Rattle.std.proofs.Common.{◌≡◌, ◌≢◌, ◌∙◌, sym, refl, ap, subst, ℕ, List, [], Option, Result, Ok, ◌⊎◌, inl, inr, arith}
+use Rattle.std.proofs.Common.{◌≡◌, ◌≢◌, ◌∙◌, sym, refl, ap, subst, ℕ, List, [], Option, Result, Ok, inl, inr, arith}
 use Rattle.std.specs.Io.KnownBytes.{Appends}
 use Rattle.ml_base.specs.Weight.{FullWeight, IsAtMost}
 use Rattle.io_edges.specs.Reads.{Store}
@@ -22,7 +22,7 @@ use Rattle.answer_text.proofs.AnswerLaws.{document_only, lines_whole}
 use Rattle.finder_core.specs.Solved.{IsListed}
 use Rattle.finder_cli.specs.declared.reply.Reply.{Reply}
 use Rattle.finder_cli.specs.Finding.{IsFoundIn, bare_answer}
-use Rattle.finder_cli.specs.Sentences.{Tells, Ran, AsksBuilt, PrintsCircuit, FindsCircuit}
+use Rattle.finder_cli.specs.Sentences.{Ran, PrintsCircuit, FindsCircuit}
 use Rattle.finder_cli.specs.Status.{code, status_of}
 use Rattle.finder_cli.specs.Words.{Words}
 use Rattle.finder_cli.proofs.Sentences.{IsDone, found-in}

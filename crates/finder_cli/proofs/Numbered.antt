@@ -1,5 +1,5 @@
 -- Words of files that are numbered, one more at the end.
-use Rattle.std.proofs.Common.{◌≡◌, ◌∙◌, sym, ap, subst, ℕ, suc, ◌+◌, ◌≤◌, ◌<◌, List, [], ◌∷◌, ◌++◌, length, take, get_or, arith}
+use Rattle.std.proofs.Common.{◌≡◌, ◌∙◌, sym, ap, ℕ, suc, ◌+◌, ◌<◌, List, [], ◌∷◌, ◌++◌, length, take, get_or, arith}
 use Rattle.std.proofs.lemmas.List.{length-take-le}
 use Rattle.finder_cli.specs.declared.reading.FileWord.{FileWord}
 use Rattle.finder_cli.specs.Words.{Word}

@@ -1,14 +1,12 @@
 -- Over told contents, where reading has not failed, there is one way to go through the files that words name.
-use Rattle.std.proofs.Common.{◌≡◌, ◌∙◌, sym, refl, ap, subst, ℕ, suc, ◌+◌, ◌<◌, ◌≤◌, List, [], ◌∷◌, ◌++◌, length, Option, Some, None, Ok, Err, IfSome, IsSome, IsSomeAnd, ◌⊎◌, inl, inr, arith}
-use Rattle.std.proofs.lemmas.Bool.{false≢true}
+use Rattle.std.proofs.Common.{◌≡◌, ◌∙◌, sym, refl, ap, subst, ℕ, ◌+◌, ◌<◌, ◌≤◌, List, [], ◌∷◌, ◌++◌, length, Option, Some, None, Ok, Err, IsSomeAnd, ◌⊎◌, inl, inr, arith}
 use Rattle.io_edges.specs.Counts.{Rose}
 use Rattle.io_edges.specs.Reads.{Store, Contents, Holds, IsAbsent, IsOver}
-use Rattle.nml_elements.specs.FileReading.{domain_of}
 use Rattle.nml_elements.specs.declared.elements.Domain.{Domain}
 use Rattle.finder_cli.specs.declared.reply.Reply.{Reply}
 use Rattle.finder_cli.specs.declared.reading.FileWord.{FileWord}
 use Rattle.finder_cli.specs.Through.{Each, Ends}
-use Rattle.finder_cli.specs.Reading.{IsRead, IsRefused, IsMissing, IsFailing, IsTooBig, IsDomain, IsFaulty, AreDomains, OverFiles}
+use Rattle.finder_cli.specs.Reading.{IsRead, IsRefused, IsMissing, IsTooBig, IsDomain, IsFaulty, AreDomains, OverFiles}
 
 abbrev pub SameStatus : Reply → Reply → Type 0
 SameStatus a b = a.status ≡ b.status

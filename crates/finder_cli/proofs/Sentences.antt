@@ -1,9 +1,6 @@
 -- The sentences on a run follow from what the words may be answered.
-use Rattle.std.proofs.Common.{◌≡◌, ◌≢◌, ◌∙◌, ◌↔◌, sym, refl, ap, subst, ℕ, ◌+◌, ◌<◌, ◌≤◌, ◌^◌, List, [], ◌∷◌, ◌++◌, Bool, Option, Some, None, IsSome, ◌⊎◌, inl, inr, arith}
-use Rattle.std.specs.Prelude.{Contains}
+use Rattle.std.proofs.Common.{◌≡◌, ◌≢◌, ◌∙◌, ◌↔◌, refl, ap, subst, ℕ, List, Option, Some, None, IsSome, inl, inr, arith}
 use Rattle.std.proofs.lemmas.Bool.{false≢true}
-use Rattle.std.specs.Io.KnownBytes.{Appends}
-use Rattle.ml_base.specs.Weight.{FullWeight, IsAtMost}
 use Rattle.io_edges.specs.Counts.{Rose}
 use Rattle.io_edges.specs.Reads.{Store, Contents}
 use Rattle.circuit_spec.specs.declared.hops.Hop.{Hop}
@@ -12,23 +9,19 @@ use Rattle.circuit_spec.specs.declared.hops.Outcome.TheVariants.{Found, NoWalk, 
 use Rattle.circuit_spec.specs.declared.hops.Request.{Request}
 use Rattle.circuit_spec.specs.Faults.{IsAccepted, IsKnown}
 use Rattle.circuit_spec.specs.Network.{Topology}
-use Rattle.circuit_spec.specs.Steps.{IsOutcome, Walk, weight_of}
+use Rattle.circuit_spec.specs.Steps.{IsOutcome, Walk}
 use Rattle.circuit_spec.proofs.OneOutcome.{one_outcome}
 use Rattle.finder_core.specs.Built.{IsBuilt}
-use Rattle.finder_core.specs.Solved.{IsListed}
 use Rattle.finder_cli.specs.declared.reply.Reply.{Reply}
-use Rattle.finder_cli.specs.declared.reply.Status.{Status}
-use Rattle.finder_cli.specs.declared.reply.Status.TheVariants as statuses
 use Rattle.finder_cli.specs.declared.words.Command.{Command}
-use Rattle.finder_cli.specs.declared.words.Command.TheVariants.{Find, Survey}
-use Rattle.finder_cli.specs.Accepting.{IsRejected, IfAccepted}
+use Rattle.finder_cli.specs.declared.words.Command.TheVariants.{Find}
+use Rattle.finder_cli.specs.Accepting.{IfAccepted}
 use Rattle.finder_cli.specs.Answers.{CommandAnswers, Answers}
 use Rattle.finder_cli.specs.Finding.{IsFound, IsFoundIn}
-use Rattle.finder_cli.specs.Printed.{PrintsWhole}
-use Rattle.finder_cli.specs.Reading.{OverFiles, AreDomains, file_words}
+use Rattle.finder_cli.specs.Reading.{file_words}
 use Rattle.finder_cli.specs.Sentences.{Tells, Ran, Asks, AsksBuilt, AsksKnown, FindsNone, FindsPast, FindsLong, FindsUnknown, FindsUnbuilt}
 use Rattle.finder_cli.specs.Status.{code, status_of}
-use Rattle.finder_cli.specs.Words.{Words, command_of}
+use Rattle.finder_cli.specs.Words.{Words}
 use Rattle.finder_cli.proofs.Passing.{over-domains}
 use Rattle.finder_cli.proofs.Settled.{rejected-apart, refusal-apart}
 

@@ -5,10 +5,9 @@ use Rattle.ml_base.specs.declared.numbers.Wish.{Wish}
 use Rattle.ml_base.specs.declared.numbers.Wish.TheVariants.{Any, Value}
 use Rattle.io_edges.specs.Counts.{Rose}
 use Rattle.io_edges.specs.Reads.{Store, Contents}
-use Rattle.nml_elements.specs.declared.elements.Domain.{Domain}
 use Rattle.circuit_spec.specs.declared.faults.MergeFault.{MergeFault}
 use Rattle.circuit_spec.specs.declared.hops.Request.{Request}
-use Rattle.circuit_spec.specs.Faults.{IsAccepted, IsFirstMergeFault, IsKnown, IsKnownEnd, merge_faults}
+use Rattle.circuit_spec.specs.Faults.{IsAccepted, IsKnown, IsKnownEnd, merge_faults}
 use Rattle.circuit_spec.specs.Network.{Name, Topology}
 use Rattle.circuit_spec.proofs.OneFault.{sound_has_none}
 use Rattle.circuit_spec.proofs.OneOutcome.{one_outcome}

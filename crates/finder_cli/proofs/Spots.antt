@@ -1,5 +1,5 @@
 -- Where the element of an id stands, by the number of the element.
-use Rattle.std.proofs.Common.{◌≡◌, ◌∙◌, sym, refl, ap, ℕ, List, Option, Some, None, map, slice_get, option_map}
+use Rattle.std.proofs.Common.{◌≡◌, ◌∙◌, sym, ap, ℕ, List, Option, Some, None, slice_get, option_map}
 use Rattle.std.specs.Prelude.{find, unwrap_or}
 use Rattle.std.specs.Option.{option_and_then}
 use Rattle.std.specs.Str.{bytes_eq}

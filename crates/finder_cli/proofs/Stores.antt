@@ -1,11 +1,11 @@
 -- Reads later in a run say what they say of the whole run.
-use Rattle.std.proofs.Common.{◌≡◌, sym, subst, ℕ, ◌+◌, ◌-◌, ◌^◌, ◌≤◌, min, List, Option, Some, None, ◌⊎◌, inl, inr, arith}
+use Rattle.std.proofs.Common.{◌≡◌, subst, ℕ, ◌≤◌, List, Some, None, inl, inr, arith}
 use Rattle.io_edges.specs.Counts.{Rose}
 use Rattle.io_edges.specs.Reads.{Store, Contents, Holds, IsAbsent, IsOver}
 use Rattle.io_edges.specs.declared.files.ReadAnswer.{ReadAnswer}
 use Rattle.finder_cli.specs.declared.reply.Reply.{Reply}
 use Rattle.finder_cli.specs.declared.reading.FileWord.{FileWord}
-use Rattle.finder_cli.specs.Reading.{IsRead, IsLastRead, IsMissing, IsFailing, IsTooBig, IsRefused}
+use Rattle.finder_cli.specs.Reading.{IsRead, IsLastRead, IsRefused}
 
 -- what a store keeps over reads
 pub record GoesOn (before mid : Store) : Type 0 where

@@ -1,5 +1,5 @@
 -- The lines that are printed, each with its newline, but for those of a document.
-use Rattle.std.specs.Prelude.{ℕ, List, [], ◌∷◌, ◌++◌, length, map, filter, codes, decimal, Option, None, Some, unwrap_or, option_map, find}
+use Rattle.std.specs.Prelude.{ℕ, List, [], ◌++◌, length, codes, decimal, unwrap_or, option_map, find}
 use Rattle.std.specs.Str.{bytes_eq}
 use Rattle.nml_elements.specs.declared.fault.ReadFault.{ReadFault}
 use Rattle.nml_elements.specs.declared.fault.ReadFault.TheVariants.{Json, Shape, Label, NoMemory}

@@ -3,7 +3,7 @@
 --   Ran              the premise: no write failed, and memory did not run out
 --   Asks             the words ask for a circuit of a request over an accepted topology that the search covers
 --   PrintsCircuit    what stands in the text after status 0
-use Rattle.std.specs.Prelude.{◌≡◌, ◌≢◌, ◌↔◌, ◌⊎◌, ℕ, List, [], Bool, Option, None, Some, IsSome, IfSome, ◌<◌, Contains}
+use Rattle.std.specs.Prelude.{◌≡◌, ◌≢◌, ◌↔◌, ◌⊎◌, ℕ, List, Bool, Option, None, Some, IsSome, IfSome, ◌<◌, Contains}
 use Rattle.std.specs.Io.KnownBytes.{Appends}
 use Rattle.ml_base.specs.Weight.{IsAtMost}
 use Rattle.io_edges.specs.Counts.{Rose}

@@ -1,5 +1,5 @@
 -- The counts of a topology.
-use Rattle.std.specs.Prelude.{◌≡◌, ℕ, List, [], ◌∷◌, ◌++◌, length, map, filter, codes}
+use Rattle.std.specs.Prelude.{ℕ, List, [], ◌∷◌, ◌++◌, length, map, filter, codes}
 use Rattle.std.specs.List.{concat}
 use Rattle.circuit_spec.specs.Network.{Topology, Placed, elements_of, ports}
 use Rattle.circuit_spec.specs.Faults.{is_link, is_service}

@@ -1,10 +1,8 @@
 -- The command that the words spell.
-use Rattle.std.specs.Prelude.{ℕ, ◌+◌, ◌≤◌, List, [], ◌∷◌, ◌&&◌, length, map, nat_lt, nat_le, codes, Bool, true, Option, Some, None, String, string_bytes, if◌then◌else◌}
+use Rattle.std.specs.Prelude.{ℕ, ◌≤◌, List, [], ◌∷◌, ◌&&◌, length, map, nat_lt, nat_le, codes, Bool, true, Option, Some, None, String, string_bytes, if◌then◌else◌}
 use Rattle.std.specs.List.{list_all}
 use Rattle.std.specs.Str.{bytes_eq}
 use Rattle.std.specs.declared.alloc.Global.{Global}
-use Rattle.ml_base.specs.declared.numbers.Wish.{Wish}
-use Rattle.circuit_spec.specs.declared.hops.Request.{Request}
 use Rattle.domain_config.specs.Fields.{id_of}
 use Rattle.answer_text.specs.Reading.{wish_of}
 use Rattle.finder_cli.specs.declared.words.End.{End}

@@ -32,19 +32,6 @@ use nml_elements::DomainList;
 use nml_inventory::Inventory;
 use std::alloc::Global;
 
-fn share_request(request: &Request) -> Result<Request, NoMemory>
-    ensures { IfOk result (λ shared. shared ≡ request.now) }
-{
-    let from = request.from.share()?;
-    let to = request.to.share()?;
-    Ok(Request {
-        from,
-        from_wish: request.from_wish,
-        to,
-        to_wish: request.to_wish,
-    })
-}
-
 /// No flag for each hop.
 fn no_flags(alloc: Global, hops: &[Hop]) -> Result<FlagList, NoMemory>
     ensures { IfOk result (λ flags. flags ≡ no_flags hops.now) }
@@ -61,7 +48,7 @@ fn bare_answer(alloc: Global, request: &Request, solved: Solved) -> Result<Answe
     ensures { IfOk result (λ answer. answer ≡ bare_answer request.now solved.outcome solved.hops) }
 {
     let flags = no_flags(alloc, solved.hops.as_slice())?;
-    let request = share_request(request)?;
+    let request = request.share()?;
     Ok(Answer {
         request,
         outcome: solved.outcome,

@@ -1,4 +1,4 @@
-use Rattle.std.proofs.Common.{inr, subst, ◌≡◌}
+use Rattle.std.proofs.Common.{inr, subst}
 use Rattle.circuit_spec.specs.Network.{Topology}
 use Rattle.finder_cli.specs.Finding.{IsFound}
 use Rattle.finder_cli.proofs.finding.find_over.Goals as goal
