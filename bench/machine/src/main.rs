@@ -1,4 +1,4 @@
-//! Cheapest nested walks of a pushdown machine, in plain Rust: the yardstick of `machine_bench`, whose lines it prints.
+//! Cheapest nested walks of a pushdown machine, in plain Rust: a yardstick for the proved search.
 //!
 //! usage: machine_base chain STATES | roots ROOTS SIZE | shared ROOTS SIZE | nest LEVELS
 

@@ -10,3 +10,4 @@ pub mod Sentences
 pub mod Circuits
 pub mod Causes
 pub mod Counting
+pub mod Counted

@@ -3,8 +3,9 @@
 --   Ran              the premise: no write failed, and memory did not run out
 --   Asks             the words ask for a circuit of a request over an accepted topology that the search covers
 --   PrintsCircuit    what stands in the text after status 0
-use Rattle.std.specs.Prelude.{◌≡◌, ◌≢◌, ◌↔◌, ◌⊎◌, ℕ, List, Bool, Option, None, Some, IsSome, IfSome, ◌<◌, Contains}
+use Rattle.std.specs.Prelude.{◌≡◌, ◌≢◌, ◌↔◌, ◌⊎◌, ℕ, List, Bool, Option, None, Some, IsSome, IfSome, ◌<◌, Contains, ◌++◌}
 use Rattle.std.specs.Io.KnownBytes.{Appends}
+use Rattle.std.specs.List.{concat}
 use Rattle.ml_base.specs.Weight.{IsAtMost}
 use Rattle.io_edges.specs.Counts.{Rose}
 use Rattle.io_edges.specs.Reads.{Store, IsAbsent, IsOver}
@@ -19,12 +20,14 @@ use Rattle.circuit_spec.specs.Steps.{Circuit, IsOutcome, Walk, weight_of}
 use Rattle.domain_config.specs.Lines.{text_of}
 use Rattle.answer_text.specs.declared.answer.Answer.{Answer}
 use Rattle.answer_text.specs.Spelling.{IsWellFormed, lines_of}
+use Rattle.nml_inventory.specs.Relations.{IsClassCount}
 use Rattle.finder_core.specs.Built.{IsBuilt}
 use Rattle.finder_cli.specs.declared.reading.FileWord.{FileWord}
 use Rattle.finder_cli.specs.declared.words.Command.{Command}
-use Rattle.finder_cli.specs.declared.words.Command.TheVariants.{Find}
+use Rattle.finder_cli.specs.declared.words.Command.TheVariants.{Find, Survey}
 use Rattle.finder_cli.specs.Answers.{files_named}
 use Rattle.finder_cli.specs.Reading.{AreDomains, IsDomain, IsLastRead, IsRead, file_words}
+use Rattle.finder_cli.specs.Surveying.{counts, heading}
 use Rattle.finder_cli.specs.Through.{Each}
 use Rattle.finder_cli.specs.Words.{Word, Words, command_of}
 
@@ -78,6 +81,13 @@ pub record PrintsCircuit (T : Topology) (r : Request) (old new : Option (List �
 abbrev pub FindsCircuit : Words → Store → Store → ℕ → Option (List ℕ) → Option (List ℕ) → Type 0
 FindsCircuit words before after status old new =
     status ≡ 0 → Tells before after → (r : Request) (T : Topology) → AsksBuilt words before r T → PrintsCircuit T r old new
+
+-- 0, for `survey`: the text is the counts of the files
+abbrev pub CountsFiles : Words → Store → Store → ℕ → Option (List ℕ) → Option (List ℕ) → Type 0
+CountsFiles words before after status old new =
+    Ran status → Tells before after → (names : List Word) (T : Topology) (classes : ℕ) → command_of words ≡ Some (Survey names)
+    → AreDomains before (file_words 1 names) T → IsAccepted T → IsClassCount T classes
+    → (status ≡ 0) × Appends old new (concat (heading T ++ counts T classes))
 
 -- 1: exactly where no list of hops is a walk
 abbrev pub FindsNone : Words → Store → Store → ℕ → Type 0

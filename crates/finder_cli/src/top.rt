@@ -3,7 +3,7 @@ ghost use Rattle.io_edges.specs.Counts.{Rose};
 ghost use Rattle.finder_cli.specs.Answers.{Answers, CommandAnswers};
 ghost use Rattle.finder_cli.specs.Lines.{usage_line};
 ghost use Rattle.finder_cli.specs.Printed.{PrintsWhole, PrintsFront};
-ghost use Rattle.finder_cli.specs.Sentences.{FindsCircuit, FindsFault, FindsLong, FindsNone, FindsPast, FindsUnbuilt, FindsUnknown, FindsUsage, IsNotRead, IsTooLarge};
+ghost use Rattle.finder_cli.specs.Sentences.{CountsFiles, FindsCircuit, FindsFault, FindsLong, FindsNone, FindsPast, FindsUnbuilt, FindsUnknown, FindsUsage, IsNotRead, IsTooLarge};
 ghost use Rattle.finder_cli.specs.Status.{code};
 ghost use Rattle.finder_cli.specs.Through.{Gives, IsText};
 ghost use Rattle.finder_cli.specs.Words.{NamesFewFiles};
@@ -64,6 +64,9 @@ pub fn run<F: Files, K: Sink>(alloc: Global, words: &[String], files: &mut F, ou
 
     // 0, for `find`: the text is the document of one answer alone, whose hops are a circuit of the files, and no walk costs less.
     ensures circuit { FindsCircuit words.now (F.store files.old) (F.store files.new) result (K.written out.old) (K.written out.new) }
+
+    // 0, for `survey`: the text is the counts of the files.
+    ensures counts { CountsFiles words.now (F.store files.old) (F.store files.new) result (K.written out.old) (K.written out.new) }
 
     // 1, 7 and 8: exactly where no walk exists, where each costs 2^64 or more, and where the cheapest are too long to list.
     ensures none { FindsNone words.now (F.store files.old) (F.store files.new) result }

@@ -1,10 +1,10 @@
 -- The first fault of the layers, by those of the classes, of the links and of the services.
-use Rattle.std.proofs.Common.{◌≡◌, inl, inr, List, [], ◌++◌, ◌∙◌, ap, subst, sym}
+use Rattle.std.proofs.Common.{◌≡◌, inl, inr, List, [], ◌++◌, ◌∙◌, ap}
 use Rattle.std.specs.List.{flat_map}
 use Rattle.circuit_spec.specs.declared.faults.LayerFault.{LayerFault}
 use Rattle.circuit_spec.specs.Network.{Topology, ports}
 use Rattle.circuit_spec.specs.Kept.{links}
-use Rattle.circuit_spec.specs.Faults.{AliasFinds, ClassesFit, FirstFound, IsFirstLayerFault, IsFirstOf, IsSound, link_faults, relating_faults, switch_faults, switches}
+use Rattle.circuit_spec.specs.Faults.{AliasFinds, ClassesFit, FirstFound, IsFirstLayerFault, IsFirstOf, IsSound, link_faults, switch_faults, switches}
 use Rattle.layer_check.specs.Found.{IsAliasFault, IsFaultIn, IsLayerFault}
 use Rattle.layer_check.proofs.Answering.{unless_map}
 

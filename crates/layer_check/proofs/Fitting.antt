@@ -1,15 +1,15 @@
 -- Classes whose ports fit, and the first that one does not fit.
 use Rattle.std.proofs.Common.{◌≡◌, ◌≢◌, ℕ, zero, suc, ◌+◌, ◌<◌, ◌≤◌, ◌⊎◌, inl, inr, List, [], ◌∷◌, Bool, true, false, Option, None, Some, length, refl, sym, ◌∙◌, ap, subst, arith, min}
-use Rattle.std.specs.Prelude.{◌||◌, slice_get, option_map}
+use Rattle.std.specs.Prelude.{slice_get, option_map}
 use Rattle.std.specs.List.{AllByRecursion}
 use Rattle.std.proofs.lemmas.Bool.{both_ways, eqb-true, eq-eqb, or_left, or_right, or_cases}
 use Rattle.std.proofs.lemmas.Option.{slice_get_within}
 use Rattle.ml_base.specs.declared.numbers.PortNo.{PortNo}
 use Rattle.circuit_spec.specs.declared.faults.LayerFault.{LayerFault}
 use Rattle.circuit_spec.specs.declared.faults.LayerFault.TheVariants.{AliasEncoding, AliasLabelType, LinkLayer, LinkLabelType, SwitchLayer, SwitchLabelType, NoMemory}
-use Rattle.circuit_spec.specs.Network.{Name, Topology, Port, First, IsClass, Linked, ports}
+use Rattle.circuit_spec.specs.Network.{Name, Topology, Port, IsClass, Linked, ports}
 use Rattle.circuit_spec.specs.Faults.{AliasFinds, ClassesFit, FirstFound, FirstMember, has_other, merge_faults, same_type, type_of}
-use Rattle.circuit_spec.proofs.ClassLemmas.{First-at, class_of_linked, linked_to_itself}
+use Rattle.circuit_spec.proofs.ClassLemmas.{First-at, class_of_linked}
 use Rattle.nml_inventory.specs.Aliases.{IsClassNumber}
 use Rattle.std.specs.Str.{bytes_eq}
 use Rattle.std.proofs.Math.Dec.{eqb}

@@ -1,7 +1,6 @@
 -- The faults of all elements, one by one.
 use Rattle.std.proofs.Common.{◌≡◌, ℕ, zero, suc, ◌+◌, ◌<◌, ◌≤◌, List, [], ◌∷◌, ◌++◌, Bool, Option, None, Some, map, filter, take, drop, length, refl, sym, ◌∙◌, ap, subst, arith}
-use Rattle.std.specs.Prelude.{◌||◌, slice_get, option_map, Result, OnOk, IfErr}
-use Rattle.std.specs.Option.{option_copied}
+use Rattle.std.specs.Prelude.{◌||◌, slice_get, option_map}
 use Rattle.std.specs.List.{cons_option, filter_map, flat_map}
 use Rattle.std.proofs.lemmas.List.{take_all, take-append-drop, drop_more}
 use Rattle.std.proofs.lemmas.Option.{get_or_from_slice_get, slice_get_within}
@@ -15,11 +14,11 @@ use Rattle.circuit_spec.specs.declared.faults.LayerFault.TheVariants.{LinkLayer,
 use Rattle.circuit_spec.specs.Network.{Name, Topology, Placed, Port, elements_of, label_type, names, ports}
 use Rattle.circuit_spec.specs.Kept.{link_at}
 use Rattle.circuit_spec.specs.Steps.{inbound_of, outbound_of}
-use Rattle.circuit_spec.specs.Faults.{IsFirstOf, layer_faults, link_faults, own_type, switch_at, switch_faults}
+use Rattle.circuit_spec.specs.Faults.{IsFirstOf, layer_faults, link_faults, switch_at, switch_faults}
 use Rattle.nml_inventory.specs.Relations.{AreNumbersOf, numbers_where, is_source, is_sink, is_inbound, is_outbound}
 use Rattle.nml_inventory.proofs.First.{flat_joined, flat_more}
 use Rattle.layer_check.specs.Elements.{of_option}
-use Rattle.layer_check.specs.Found.{IsFaultIn, UnlessNoMemory}
+use Rattle.layer_check.specs.Found.{IsFaultIn}
 use Rattle.layer_check.specs.Related.{AreTogether}
 use Rattle.layer_check.proofs.Answering.{unless_map}
 use Rattle.layer_check.proofs.Once.{one_of_some}

@@ -1,7 +1,7 @@
 -- A port has one class number, and its id one element.
-use Rattle.std.proofs.Common.{◌≡◌, ℕ, zero, suc, ◌<◌, inl, inr, List, [], ◌∷◌, ◌++◌, Option, None, Some, map, refl, sym, ◌∙◌, ap, subst}
+use Rattle.std.proofs.Common.{◌≡◌, ℕ, suc, inl, inr, List, [], ◌∷◌, ◌++◌, Some, sym, ◌∙◌, ap, subst}
 use Rattle.std.specs.Prelude.{slice_get}
-use Rattle.circuit_spec.specs.Network.{Name, Topology, Port, First, IsClass, Linked, ports}
+use Rattle.circuit_spec.specs.Network.{Topology, Port, First, IsClass, Linked, ports}
 use Rattle.circuit_spec.specs.Faults.{duplicate_ids, duplicate_topologies, merge_faults, wrong_kinds}
 use Rattle.circuit_spec.proofs.Lists.{both_empty}
 use Rattle.circuit_spec.proofs.ClassLemmas.{First-unique, linked_back, class_of_itself, class_of_linked}

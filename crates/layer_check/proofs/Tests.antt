@@ -1,9 +1,8 @@
 -- What tests of encodings and label types mean.
-use Rattle.std.proofs.Common.{◌≡◌, ◌≢◌, ℕ, Bool, true, false, Option, None, Some, refl, sym, ◌∙◌, ap}
-use Rattle.std.specs.Prelude.{not, ◌||◌, ◌↔◌, slice_get, option_map, unwrap_or}
-use Rattle.std.specs.Option.{option_copied}
+use Rattle.std.proofs.Common.{◌≡◌, ◌≢◌, ℕ, Bool, true, false, Option, None, Some, refl, ◌∙◌, ap}
+use Rattle.std.specs.Prelude.{◌||◌, slice_get, option_map, unwrap_or}
 use Rattle.std.specs.Str.{bytes_eq}
-use Rattle.std.proofs.lemmas.Bool.{both_ways, not-true, not-false, false≢true}
+use Rattle.std.proofs.lemmas.Bool.{both_ways, not-true, not-false}
 use Rattle.std.proofs.lemmas.Slice.Eq.{bytes_eq-Decides}
 use Rattle.circuit_spec.specs.Network.{Name, Topology, Port, ports}
 use Rattle.circuit_spec.specs.Faults.{same_type, type_of}

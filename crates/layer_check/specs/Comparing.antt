@@ -1,5 +1,5 @@
 -- What ports are compared with.
-use Rattle.std.specs.Prelude.{◌≡◌, ℕ, Bool, true, false, ◌||◌, Option, None, Some, option_map, unwrap_or, slice_get}
+use Rattle.std.specs.Prelude.{ℕ, Bool, false, Option, None, option_map, unwrap_or, slice_get}
 use Rattle.std.specs.Option.{option_copied}
 use Rattle.std.specs.Str.{bytes_eq}
 use Rattle.nml_elements.specs.declared.elements.Element.{Element}

@@ -1,5 +1,5 @@
 -- The faults of the element of a number.
-use Rattle.std.specs.Prelude.{ℕ, List, [], Option, None, Some, slice_get, unwrap_or, option_map}
+use Rattle.std.specs.Prelude.{ℕ, List, [], Option, None, Some, slice_get}
 use Rattle.circuit_spec.specs.declared.faults.LayerFault.{LayerFault}
 use Rattle.circuit_spec.specs.Kept.{link_at}
 use Rattle.circuit_spec.specs.Network.{Topology, Placed, elements_of}

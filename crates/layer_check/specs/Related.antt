@@ -1,13 +1,10 @@
 -- The ports of a link or a switching service, and what is wrong with them.
-use Rattle.std.specs.Prelude.{◌≡◌, ℕ, ◌<◌, List, Bool, ◌||◌, All, Option, Some, map, filter, length, option_map}
+use Rattle.std.specs.Prelude.{◌≡◌, ◌<◌, List, Bool, ◌||◌, All, Some, map, filter, length, option_map}
 use Rattle.std.specs.Option.{option_copied}
 use Rattle.ml_base.specs.declared.numbers.PortNo.{PortNo}
-use Rattle.nml_elements.specs.declared.elements.Element.{Element}
-use Rattle.nml_elements.specs.declared.elements.Element.TheVariants as element
 use Rattle.circuit_spec.specs.declared.faults.LayerFault.{LayerFault}
-use Rattle.circuit_spec.specs.Kept.{link_at}
-use Rattle.circuit_spec.specs.Network.{Topology, Placed, Port, elements_of, ports}
-use Rattle.circuit_spec.specs.Faults.{layer_faults, link_faults, switch_at, switch_faults}
+use Rattle.circuit_spec.specs.Network.{Topology, Port, ports}
+use Rattle.circuit_spec.specs.Faults.{layer_faults}
 use Rattle.nml_inventory.specs.Relations.{numbers_where}
 use Rattle.layer_check.specs.declared.comparing.Reference.{Reference}
 use Rattle.layer_check.specs.declared.related.Related.{Related}

@@ -10,8 +10,6 @@ mod members;
 mod numbers;
 mod related;
 mod services;
-#[cfg(test)]
-mod tests;
 
 pub use checking::check;
 pub use circuit_spec::LayerFault;

@@ -3,6 +3,7 @@ use Rattle.finder_cli.specs.Status.{code}
 use Rattle.finder_cli.proofs.Settled.{Answers-one}
 use Rattle.finder_cli.proofs.Sentences.{says-none, says-past, says-long, says-unknown, says-unbuilt}
 use Rattle.finder_cli.proofs.Circuits.{says-circuit}
+use Rattle.finder_cli.proofs.Counted.{says-counts}
 use Rattle.finder_cli.proofs.Causes.{says-usage, says-fault, says-not-read, says-too-large}
 use Rattle.finder_cli.proofs.top.run.Goals as goal
 
@@ -49,3 +50,7 @@ returns-in-Ok-clause-not_read g c = says-not-read c.args.words.now (g.F.Files.st
 pub returns-in-Ok-clause-too_large : goal.returns-in-Ok-clause-too_large
 returns-in-Ok-clause-too_large g c = says-too-large c.args.words.now (g.F.Files.store c.args.files.now) (g.F.Files.store c.reply_to.new.files) c.print.result c.in-Ok.reply
     (λ ran. record { may = c.in-Ok.ensures; code = c.print.ensures.status ran.0 })
+
+pub returns-in-Ok-clause-counts : goal.returns-in-Ok-clause-counts
+returns-in-Ok-clause-counts g c = says-counts c.args.words.now (g.F.Files.store c.args.files.now) (g.F.Files.store c.reply_to.new.files) c.print.result c.in-Ok.reply
+    (g.K.Sink.written c.args.out.now) (g.K.Sink.written c.print.new.out) (λ ran. record { may = c.in-Ok.ensures; code = c.print.ensures.status ran.0 }) c.print.ensures.whole
