@@ -1,0 +1,6 @@
+pub mod Heaps
+pub mod Keys
+pub mod Filed
+pub mod Deriving
+pub mod Offering
+pub mod Turning

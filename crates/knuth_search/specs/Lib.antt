@@ -1,0 +1,4 @@
+pub mod Derived
+pub mod Following
+pub mod Tables
+pub mod Searching
