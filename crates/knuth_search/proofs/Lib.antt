@@ -4,3 +4,5 @@ pub mod Filed
 pub mod Deriving
 pub mod Offering
 pub mod Turning
+pub mod Gathering
+pub mod Choosing

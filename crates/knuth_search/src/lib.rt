@@ -5,10 +5,8 @@ mod derived;
 mod queue;
 mod run;
 mod settle;
+mod settled;
 mod table;
 
-pub use derived::Derived;
-pub use queue::Queue;
-pub use run::search_table;
-pub use settle::Setting;
-pub use table::Table;
+pub use run::search;
+pub use settled::Settled;

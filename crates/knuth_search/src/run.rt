@@ -6,11 +6,13 @@ ghost use Rattle.segment_grammar.specs.Index.{IsIndexOf};
 ghost use Rattle.segment_grammar.specs.Pots.{pot};
 ghost use Rattle.knuth_search.specs.Following.{zero, Offers};
 ghost use Rattle.knuth_search.specs.Searching.{Begins, Turns, IsComplete};
+ghost use Rattle.knuth_search.specs.Settled.{IsSettledOf};
 ghost use Rattle.knuth_search.specs.Tables.{pot_of, IsKept};
 
 use crate::derived::Derived;
 use crate::queue::Queue;
 use crate::settle::{Setting, settle};
+use crate::settled::{Settled, gather};
 use crate::table::Table;
 use adapt_machine::Machine;
 use bumpalo::Bump;
@@ -79,7 +81,7 @@ fn turn<'m, 'a>(
 }
 
 /// The reached pairs in a table, each with its least weight and a derivation.
-pub fn search_table<'m, 'a>(
+fn search_table<'m, 'a>(
     alloc: Global,
     machine: &'m Machine,
     index: &'m Index,
@@ -106,4 +108,21 @@ pub fn search_table<'m, 'a>(
         turn(setting, &mut table, &mut queue, next)?;
     }
     Err(NoMemory)
+}
+
+/// The reached pairs of the machine, each with its least weight and a derivation of it, which lies in the arena.
+pub fn search<'a>(
+    alloc: Global,
+    machine: &Machine,
+    index: &Index,
+    starts: &[StateNo],
+    arena: &'a Bump,
+) -> Result<Settled<'a>, NoMemory>
+    requires index { IsIndexOf machine.now index.now }
+    requires starts { (a : StateNo) → Contains starts.now a → a.0 < machine.now.states }
+    ensures { IfOk result (λ s. IsSettledOf machine.now starts.now s) }
+{
+    let table = search_table(alloc, machine, index, starts, arena)?;
+    let settled = gather(alloc, &table)?;
+    Ok(settled)
 }

@@ -4,19 +4,20 @@ ghost use Rattle.ml_base.specs.Weight.{IsCappedAtMost};
 ghost use Rattle.ml_base.specs.declared.numbers.StateNo.{StateNo};
 ghost use Rattle.ml_base.specs.declared.numbers.Root.TheVariants.{Entry};
 ghost use Rattle.segment_grammar.specs.declared.potentials.Pot.{Pot};
-ghost use Rattle.segment_grammar.specs.Pots.{pot, IsOfPair};
+ghost use Rattle.segment_grammar.specs.Pots.{IsOfPair};
 ghost use Rattle.segment_grammar.specs.Rows.{row_of};
-ghost use Rattle.knuth_search.specs.Derived.{IsRootWithin, IsDerived};
+ghost use Rattle.knuth_search.specs.Derived.{IsRootWithin};
 ghost use Rattle.knuth_search.specs.Following.{IsCovered};
+ghost use Rattle.knuth_search.specs.Gathered.{AreKeysOf};
 ghost use Rattle.knuth_search.specs.Tables.{pot_of, IsKept, root_key, ListsPlaces, KeepsRows};
 
 use crate::derived::Derived;
 use adapt_machine::Machine;
-use deriv_arena::Deriv;
 use ml_base::{NoMemory, Root, StateNo};
 use segment_grammar::{Pot, Rows};
 use std::alloc::Global;
 use std::collections::BTreeMap;
+use std::collections::btree_map::Keys;
 use std::marker::Model;
 
 /// The settled pairs with their weights and derivations, each in one place. A pair is found by a map, and the places of the
@@ -49,6 +50,16 @@ fn root_key(root: Root) -> Option<u64>
     match root {
         Root::Request => None,
         Root::Entry(entry) => Some(entry.0),
+    }
+}
+
+/// The root of a key.
+pub fn root_at(key: Option<u64>) -> Root
+    ensures { root_key result ≡ key }
+{
+    match key {
+        None => Root::Request,
+        Some(entry) => Root::Entry(StateNo(entry)),
     }
 }
 
@@ -115,6 +126,13 @@ impl<'m, 'a> Table<'m, 'a> {
         Some(*item)
     }
 
+    /// The keys of the pairs, rising.
+    pub fn keys(&self) -> Keys<'_, (Option<u64>, u64), u64>
+        ensures { AreKeysOf self.now.pots result }
+    {
+        self.places.keys()
+    }
+
     /// The places of the pairs under an entered state.
     pub fn under(&self, entry: StateNo) -> &[u64]
         requires { entry.0 < self.now.task.machine.states }
@@ -131,7 +149,8 @@ impl<'m, 'a> Table<'m, 'a> {
         self.by_state.row(state.0)
     }
 
-    fn least(&self, root: Root, state: StateNo) -> Option<Derived<'a>>
+    /// The least item of the pair, or None exactly where the pair is not listed.
+    pub fn least(&self, root: Root, state: StateNo) -> Option<Derived<'a>>
         ensures some { IfSome result (λ d. IsOfPair (pot_of d) root state × Contains self.now.pots (pot_of d)) }
         ensures kept { IfSome result (λ d. IsKept self.now.task d) }
         ensures least { IfSome result (λ d. (p : Pot) → Contains self.now.pots p → IsOfPair p root state → IsCappedAtMost d.weight p.weight) }
@@ -147,18 +166,6 @@ impl<'m, 'a> Table<'m, 'a> {
             return None;
         }
         Some(item)
-    }
-
-    /// A derivation of the pair, of the least listed weight, or None exactly where the pair is not listed.
-    pub fn derivation(&self, root: Root, state: StateNo) -> Option<&'a Deriv<'a>>
-        ensures some { IfSome result (λ d. IsDerived self.now.task (pot root state d.now.weight) d.now) }
-        ensures least { IfSome result (λ d. (p : Pot) → Contains self.now.pots p → IsOfPair p root state → IsCappedAtMost d.now.weight p.weight) }
-        ensures none { IfNone result ((p : Pot) → Contains self.now.pots p → IsOfPair p root state → ⊥) }
-    {
-        let Some(item) = self.least(root, state) else {
-            return None;
-        };
-        Some(item.deriv)
     }
 
     /// Whether the pair is listed at no more than this weight.
