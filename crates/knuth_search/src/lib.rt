@@ -7,6 +7,8 @@ mod run;
 mod settle;
 mod settled;
 mod table;
+#[cfg(test)]
+mod tests;
 
 pub use run::search;
 pub use settled::Settled;
