@@ -1,5 +1,5 @@
 -- The derivation of a pair, and the lightest of some targets.
-use Rattle.std.proofs.Common.{◌≡◌, ℕ, ◌≤◌, ◌⊎◌, List, [], ◌∷◌, ◌++◌, length, refl, sym, ◌∙◌, ap, subst, inl, inr, arith, Bor, IfSome, Contains, Some, None, Option, slice_get}
+use Rattle.std.proofs.Common.{◌≡◌, ℕ, ◌≤◌, List, [], ◌∷◌, ◌++◌, length, refl, sym, subst, inl, inr, arith, Bor, IfSome, Contains, Some, None, Option, slice_get}
 use Rattle.std.proofs.lemmas.List.{length-map}
 use Rattle.std.proofs.lemmas.List.Elements.{Contains-push, Contains-push_cases, Contains-append_left}
 use Rattle.ml_base.specs.declared.numbers.StateNo.{StateNo}
@@ -14,11 +14,11 @@ use Rattle.adapt_machine.specs.Walks.{weight_of}
 use Rattle.segment_grammar.specs.declared.potentials.Pot.{Pot}
 use Rattle.segment_grammar.specs.Pots.{pot, IsOfPair}
 use Rattle.segment_grammar.specs.Reached.{IsSegmentUnder, IsReached, IsLeast}
-use Rattle.segment_grammar.proofs.Places.{slice_get-below, contains_at}
+use Rattle.segment_grammar.proofs.Places.{slice_get-below}
 use Rattle.deriv_arena.specs.declared.Deriv.{Deriv}
 use Rattle.deriv_arena.specs.Derivation.{kept_weight}
 use Rattle.knuth_search.specs.declared.settled.Settled.{Settled}
-use Rattle.knuth_search.specs.Settled.{potentials_of, derivs_of, ArePotentials, IsCheapest, IsSettledOf, IsBest, IsLightest, IsLightestOf}
+use Rattle.knuth_search.specs.Settled.{potentials_of, derivs_of, IsCheapest, IsSettledOf, IsBest, IsLightest, IsLightestOf}
 
 -- ---- the derivation at a place
 

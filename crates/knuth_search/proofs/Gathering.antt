@@ -1,9 +1,8 @@
 -- The pairs of a table in the order of its keys.
-use Rattle.std.proofs.Common.{◌≡◌, ℕ, ◌+◌, ◌<◌, ◌⊎◌, List, [], ◌∷◌, ◌++◌, length, length-append, refl, sym, ◌∙◌, ap, subst, inl, inr, arith, Contains, Some, None, Option, slice_get, zero, suc}
-use Rattle.std.specs.Prelude.{IsSome, Bool, true}
-use Rattle.std.specs.Map.{lookup, keys_of}
+use Rattle.std.proofs.Common.{◌≡◌, ℕ, ◌+◌, ◌<◌, ◌⊎◌, List, [], ◌∷◌, ◌++◌, length, length-append, refl, sym, ◌∙◌, ap, subst, inl, inr, arith, Contains, Some, Option, slice_get, zero, suc}
+use Rattle.std.specs.Prelude.{IsSome, true}
+use Rattle.std.specs.Map.{keys_of}
 use Rattle.std.specs.List.Sorted.{IsStrictlySortedBy}
-use Rattle.std.specs.declared.cmp.Ordering.{Ordering}
 use Rattle.std.specs.declared.cmp.Ordering.TheVariants.{Less}
 use Rattle.std.specs.Ordering.{nat_cmp, ordering_then}
 use Rattle.std.proofs.lemmas.Grind.{common_steps}
@@ -13,7 +12,6 @@ use Rattle.std.proofs.lemmas.Map.Views.{Contains-keys_from_lookup}
 use Rattle.ml_base.specs.declared.numbers.StateNo.{StateNo}
 use Rattle.ml_base.specs.declared.numbers.Root.{Root}
 use Rattle.ml_base.specs.declared.numbers.Root.TheVariants.{Request, Entry}
-use Rattle.ml_base.specs.declared.weight.Weight.{Weight}
 use Rattle.ml_base.specs.Weight.{IsCappedAtMost}
 use Rattle.adapt_machine.specs.Machine.{MachineValue}
 use Rattle.segment_grammar.specs.declared.potentials.Pot.{Pot}
@@ -21,14 +19,13 @@ use Rattle.segment_grammar.specs.Pots.{pot, IsOfPair, IsBelow, IsAboveLast}
 use Rattle.segment_grammar.specs.Reached.{IsLeast}
 use Rattle.segment_grammar.proofs.Places.{slice_get-below, contains_at, at_contains, pushed_at}
 use Rattle.deriv_arena.specs.declared.Deriv.{Deriv}
-use Rattle.knuth_search.specs.declared.derived.Derived.{Derived}
 use Rattle.knuth_search.specs.declared.settled.Settled.{Settled}
 use Rattle.knuth_search.specs.Derived.{Task, IsDerived}
 use Rattle.knuth_search.specs.Following.{IsCovered}
 use Rattle.knuth_search.specs.Searching.{IsComplete}
 use Rattle.knuth_search.specs.Tables.{pot_of, root_key, IsPlaced}
-use Rattle.knuth_search.specs.Settled.{potentials_of, derivs_of, ArePotentials, IsCheapest, IsSettledOf}
-use Rattle.knuth_search.specs.Gathered.{key_cmp, key_of, AreKeysOf, HasPair, IsLeastItem, Appends, Leaves, Lists, IsGathered}
+use Rattle.knuth_search.specs.Settled.{potentials_of, derivs_of, IsSettledOf}
+use Rattle.knuth_search.specs.Gathered.{key_cmp, key_of, AreKeysOf, HasPair, Lists, IsGathered}
 use Rattle.knuth_search.proofs.Deriving.{derived_segment, derived_weight}
 use Rattle.knuth_search.proofs.Keys.{IsKey, same_key, root_key-same, state_same}
 use Rattle.knuth_search.proofs.Offering.{contains_cases}
