@@ -1,0 +1,188 @@
+-- Candidates that are offered.
+use Rattle.std.proofs.Common.{◌≡◌, ℕ, ◌+◌, ◌<◌, ◌⊎◌, List, ◌∷◌, length, refl, sym, ◌∙◌, ap, subst, inl, inr, arith, Contains, Some, None, slice_get, zero as nought, suc, slice_index_or}
+use Rattle.std.specs.List.Sorted.{IsPermutation}
+use Rattle.std.proofs.lemmas.List.Sorted.{Contains-permutation}
+use Rattle.std.proofs.lemmas.Bool.{cases_lt}
+use Rattle.std.proofs.Math.ListN.{get_or}
+use Rattle.ml_base.specs.declared.numbers.StepNo.{StepNo}
+use Rattle.ml_base.specs.declared.numbers.StateNo.{StateNo}
+use Rattle.ml_base.specs.declared.numbers.Root.{Root}
+use Rattle.adapt_machine.specs.declared.MachineKind.TheVariants.{Push}
+use Rattle.ml_base.specs.declared.numbers.Root.TheVariants.{Entry}
+use Rattle.ml_base.specs.declared.weight.Weight.{Weight}
+use Rattle.ml_base.specs.Weight.{capped_total}
+use Rattle.adapt_machine.specs.declared.MachineStep.{MachineStep}
+use Rattle.segment_grammar.specs.declared.potentials.Pot.{Pot}
+use Rattle.segment_grammar.specs.Pots.{pot}
+use Rattle.segment_grammar.specs.Index.{ListsSteps, IsPushFrom, IsPushInto, IsPopAt}
+use Rattle.segment_grammar.proofs.Places.{contains_at, at_contains, same_at, slice_get-below}
+use Rattle.knuth_search.specs.Following.{zero, stepped, IsCovered, IsStepOf, FlatBy, OpenedBy, NestedBy, Enters, Meets, Closes, PushedBy, Fills, SomePot, AtPlace, Among, Offers}
+use Rattle.knuth_search.proofs.Filed.{covered_itself}
+
+pub contains_head : {X : Type 0} (x : X) (xs : List X) → Contains (x ∷ xs) x
+contains_head x xs = (0, omega arith, refl)
+
+pub contains_tail : {X : Type 0} (x y : X) (xs : List X) → Contains xs y → Contains (x ∷ xs) y
+contains_tail x y xs p = (suc p.0, omega arith, p.2)
+
+pub contains_cases : {X : Type 0} (x y : X) (xs : List X) → Contains (x ∷ xs) y → Contains xs y ⊎ (y ≡ x)
+contains_cases x y xs p = go p.0 p.1 p.2
+  where
+    go : (k : ℕ) → k < length (x ∷ xs) → slice_index_or (x ∷ xs) k y ≡ y → Contains xs y ⊎ (y ≡ x)
+    go nought l e = inr (sym e)
+    go (suc k) l e = inl (k, omega arith, e)
+
+module _ (table : List Pot) where
+  -- nothing follows
+  pub offers_none : (R : Pot → Type 0) (old : List Pot) → ((p : Pot) → R p → ⊥) → Offers table R old old
+  offers_none R old none = record { kept = λ p h. h; all = λ p r. absurd (none p r) }
+
+  -- one follows, and the table has it
+  pub offers_covered : (R : Pot → Type 0) (old : List Pot) (x : Pot) → IsCovered table x → ((p : Pot) → R p → p ≡ x) → Offers table R old old
+  offers_covered R old x c is = record { kept = λ p h. h; all = λ p r. inl (subst (λ v. IsCovered table v) (sym (is p r)) c) }
+
+  -- one follows, and it is pushed
+  pub offers_pushed : (R : Pot → Type 0) (old new : List Pot) (x : Pot) → IsPermutation (x ∷ old) new → ((p : Pot) → R p → p ≡ x) → Offers table R old new
+  offers_pushed R old new x moved is = record {
+    kept = λ p h. Contains-permutation (x ∷ old) new p moved (contains_tail x p old h);
+    all = λ p r. inr (subst (λ v. IsCovered new v) (sym (is p r)) (covered_itself new x (Contains-permutation (x ∷ old) new x moved (contains_head x old))));
+  }
+
+  covered_more : (old new : List Pot) → ((p : Pot) → Contains old p → Contains new p) → (p : Pot) → IsCovered table p ⊎ IsCovered old p → IsCovered table p ⊎ IsCovered new p
+  covered_more old new kept p (inl c) = inl c
+  covered_more old new kept p (inr c) = inr (record { weight = c.weight; listed = kept (pot p.root p.state c.weight) c.listed; at_most = c.at_most })
+
+  pub offers_then : (R S U : Pot → Type 0) (old now new : List Pot) → Offers table R old now → Offers table S now new → ((p : Pot) → U p → R p ⊎ S p) → Offers table U old new
+  offers_then R S U old now new first second back = record {
+    kept = λ p h. second.kept p (first.kept p h);
+    all = λ p u. elim (back p u) as (λ v. IsCovered table p ⊎ IsCovered new p) [ inl r ↦ covered_more now new second.kept p (first.all p r) | inr s ↦ second.all p s ];
+  }
+
+  pub offers_same : (R S : Pot → Type 0) (old new : List Pot) → Offers table R old new → ((p : Pot) → S p → R p) → Offers table S old new
+  offers_same R S old new offers back = record { kept = offers.kept; all = λ p s. offers.all p (back p s) }
+
+  number_cases : (i n : ℕ) → i < n + 1 → (i < n) ⊎ (i ≡ n)
+  number_cases i n l = elim (cases_lt i n) as (λ v. (i < n) ⊎ (i ≡ n)) [ inl a ↦ inl a | inr b ↦ inr (omega arith) ]
+
+  module _ {X : Type 0} (R : X → Pot → Type 0) (xs : List X) where
+    pub offers_first : (old : List Pot) → Offers table (Among R xs 0) old old
+    offers_first old = offers_none (Among R xs 0) old (λ p a. let l : a.number < 0 = a.early in omega arith)
+
+    among_cases : (n : ℕ) (x : X) → slice_get xs n ≡ Some x → (p : Pot) → Among R xs (n + 1) p → Among R xs n p ⊎ R x p
+    among_cases n x found p a = go (number_cases a.number n a.early)
+      where
+        go : (a.number < n) ⊎ (a.number ≡ n) → Among R xs n p ⊎ R x p
+        go (inl l) = inl (record { number = a.number; early = l; item = a.item; found = a.found; gives = a.gives })
+        go (inr e) = inr (subst (λ v. R v p) (same_at xs n a.item x (subst (λ i. slice_get xs i ≡ Some a.item) e a.found) found) a.gives)
+
+    -- a loop's step
+    pub offers_more : (n : ℕ) (x : X) → slice_get xs n ≡ Some x → (old now new : List Pot) → Offers table (Among R xs n) old now → Offers table (R x) now new → Offers table (Among R xs (n + 1)) old new
+    offers_more n x found old now new first second = offers_then (Among R xs n) (R x) (Among R xs (n + 1)) old now new first second (among_cases n x found)
+
+    -- a loop's end, over a list that has each item that gives something
+    pub offers_listed : (S : Pot → Type 0) (n : ℕ) → n ≡ length xs → ((p : Pot) → S p → (x : X) × Contains xs x × R x p) → (old new : List Pot) → Offers table (Among R xs n) old new → Offers table S old new
+    offers_listed S n whole back old new offers = offers_same (Among R xs n) S old new offers (λ p s. among p (back p s))
+      where
+        among : (p : Pot) → (x : X) × Contains xs x × R x p → Among R xs n p
+        among p b =
+            let at : (i : ℕ) × (i < length xs) × (slice_get xs i ≡ Some b.0) = at_contains xs b.0 b.1 in
+            record { number = at.0; early = subst (λ m. at.0 < m) (sym whole) at.1; item = b.0; found = at.2; gives = b.2 }
+
+  -- what stands at a place
+  pub offers_at : (R : Pot → Pot → Type 0) (place : ℕ) (x : Pot) → slice_get table place ≡ Some x → (old new : List Pot) → Offers table (λ p. R x p) old new → Offers table (AtPlace table R place) old new
+  offers_at R place x found old new offers = offers_same (λ p. R x p) (AtPlace table R place) old new offers
+      (λ p a. subst (λ v. R v p) (same_at table place a.item x a.found found) a.gives)
+
+  no_item : (i : ℕ) (x : Pot) → slice_get table i ≡ None → slice_get table i ≡ Some x → ⊥
+  no_item i x p q = cc
+
+  pub offers_nowhere : (R : Pot → Pot → Type 0) (place : ℕ) → slice_get table place ≡ None → (old : List Pot) → Offers table (AtPlace table R place) old old
+  offers_nowhere R place gone old = offers_none (AtPlace table R place) old (λ p a. no_item place a.item gone a.found)
+
+  pub offers_not_at : (R : Pot → Pot → Type 0) (place : ℕ) (x : Pot) → slice_get table place ≡ Some x → ((p : Pot) → R x p → ⊥) → (old : List Pot) → Offers table (AtPlace table R place) old old
+  offers_not_at R place x found none old = offers_none (AtPlace table R place) old (λ p a. none p (subst (λ v. R v p) (same_at table place a.item x a.found found) a.gives))
+
+-- what one step gives is one pot
+module _ (steps : List MachineStep) (prev : Pot) (k : StepNo) (t : MachineStep) (found : slice_get steps k.0 ≡ Some t) where
+  pub flat_is : (w : Weight) → w ≡ stepped prev.weight t → (p : Pot) → FlatBy steps prev k p → p ≡ pot prev.root t.to w
+  flat_is w weighs p f =
+      f.is ∙ ap (λ v. pot prev.root v.to (stepped prev.weight v)) (same_at steps k.0 f.step.step t f.step.found found) ∙ ap (λ v. pot prev.root t.to v) (sym weighs)
+
+  pub opened_is : (w : Weight) → w ≡ zero → (p : Pot) → OpenedBy steps prev k p → p ≡ pot (Entry t.to) t.to w
+  opened_is w weighs p f = f.is ∙ ap (λ v. pot (Entry v.to) v.to zero) (same_at steps k.0 f.push.step t f.push.found found) ∙ ap (λ v. pot (Entry t.to) t.to v) (sym weighs)
+
+  pub nested_is : (inner : Pot) (l : StepNo) (u : MachineStep) → slice_get steps l.0 ≡ Some u → (w : Weight) → w ≡ stepped (capped_total (stepped prev.weight t) inner.weight) u
+      → (p : Pot) → NestedBy steps prev k inner l p → p ≡ pot prev.root u.to w
+  nested_is inner l u found_u w weighs p n =
+      n.is
+      ∙ ap (λ v. pot prev.root v.to (stepped (capped_total (stepped prev.weight n.meets.enters.push.step) inner.weight) v)) (same_at steps l.0 n.meets.pop.step u n.meets.pop.found found_u)
+      ∙ ap (λ v. pot prev.root u.to (stepped (capped_total (stepped prev.weight v) inner.weight) u)) (same_at steps k.0 n.meets.enters.push.step t n.meets.enters.push.found found)
+      ∙ ap (λ v. pot prev.root u.to v) (sym weighs)
+
+-- what the rows of the index say of their steps
+pub listed_step : (steps : List MachineStep) (n : ℕ) (test : MachineStep → Type 0) (list : List StepNo) → ListsSteps steps n test list → (i : ℕ) (k : StepNo) → slice_get list i ≡ Some k → IsStepOf steps test k
+listed_step steps n test list lists i k at =
+    let only : (k.0 < n) × ((t : MachineStep) × (slice_get steps k.0 ≡ Some t) × test t) = lists.only k (contains_at list i k at) in
+    record { step = only.1.0; found = only.1.1; passes = only.1.2 }
+
+pub step_listed : (steps : List MachineStep) (test : MachineStep → Type 0) (list : List StepNo) → ListsSteps steps (length steps) test list → (k : StepNo) (f : IsStepOf steps test k) → Contains list k
+step_listed steps test list lists k f = lists.all k.0 f.step (slice_get-below steps k.0 f.step f.found) f.found f.passes
+
+-- the pops of the pushed frame
+module _ (steps : List MachineStep) (prev : Pot) (k : StepNo) (inner : Pot) (pushed : MachineStep) (found : slice_get steps k.0 ≡ Some pushed) where
+  pub enters_here : IsStepOf steps (IsPushFrom prev.state) k → inner.root ≡ Entry pushed.to → Enters steps prev k inner
+  enters_here f under = record { push = f; under = under ∙ ap (λ t. Entry t.to) (same_at steps k.0 pushed f.step found f.found) }
+
+  pub under_here : Enters steps prev k inner → inner.root ≡ Entry pushed.to
+  under_here e = e.under ∙ ap (λ t. Entry t.to) (same_at steps k.0 e.push.step pushed e.push.found found)
+
+  pub fill_enters : (t : MachineStep) × (slice_get steps k.0 ≡ Some t) × (t.kind ≡ Push) × (inner.root ≡ Entry t.to) → prev.state ≡ pushed.from → Enters steps prev k inner
+  fill_enters into from =
+      let same : into.0 ≡ pushed = same_at steps k.0 into.0 pushed into.1 found in
+      record { push = record { step = pushed; found = found; passes = (subst (λ t. t.kind ≡ Push) same into.2, sym from) }; under = into.3 ∙ ap (λ t. Entry t.to) same }
+
+  pub from_here : Enters steps prev k inner → prev.state ≡ pushed.from
+  from_here e = sym e.push.passes.1 ∙ ap (λ t. t.from) (same_at steps k.0 e.push.step pushed e.push.found found)
+
+  module _ (list : List StepNo) (lists : ListsSteps steps (length steps) (IsPopAt inner.state pushed.frame) list) where
+    pub meets_listed : Enters steps prev k inner → (i : ℕ) (l : StepNo) → slice_get list i ≡ Some l → Meets steps prev k inner l
+    meets_listed e i l at = record {
+      enters = e;
+      pop = subst (λ t. IsStepOf steps (IsPopAt inner.state t.frame) l) (same_at steps k.0 pushed e.push.step found e.push.found) (listed_step steps (length steps) (IsPopAt inner.state pushed.frame) list lists i l at);
+    }
+
+    pub closes_listed : (p : Pot) → Closes steps prev k inner p → (x : StepNo) × Contains list x × NestedBy steps prev k inner x p
+    closes_listed p s = (
+      s.number,
+      step_listed steps (IsPopAt inner.state pushed.frame) list lists s.number
+          (subst (λ t. IsStepOf steps (IsPopAt inner.state t.frame) s.number) (same_at steps k.0 s.gives.meets.enters.push.step pushed s.gives.meets.enters.push.found found) s.gives.meets.pop),
+      s.gives,
+    )
+
+-- the places of the pairs
+module _ (table : List Pot) (R : Pot → Pot → Type 0) (test : Pot → Type 0) (list : List ℕ) (lists : (i : ℕ) (p : Pot) → slice_get table i ≡ Some p → test p → Contains list i)
+    (tests : (item p : Pot) → R item p → test item) where
+  pub places_listed : (p : Pot) → SomePot table R p → (i : ℕ) × Contains list i × AtPlace table R i p
+  places_listed p s =
+      let at : (i : ℕ) × (i < length table) × (slice_get table i ≡ Some s.item) = at_contains table s.item s.listed in
+      (at.0, lists at.0 s.item at.2 (tests s.item p s.gives), record { item = s.item; found = at.2; gives = s.gives })
+
+pub pushed_step : (steps : List MachineStep) (table : List Pot) (prev : Pot) (k : StepNo) (p : Pot) → PushedBy steps table prev k p → IsStepOf steps (IsPushFrom prev.state) k
+pushed_step steps table prev k p (inl o) = o.push
+pushed_step steps table prev k p (inr s) = s.gives.gives.meets.enters.push
+
+entry_same : (r : Root) (a b : StateNo) → r ≡ Entry a → r ≡ Entry b → a ≡ b
+entry_same r a b p q = cc
+
+pub into_here : (steps : List MachineStep) (k : StepNo) (r : Root) (e : StateNo) → r ≡ Entry e → IsStepOf steps (IsPushInto e) k → (t : MachineStep) × (slice_get steps k.0 ≡ Some t) × (t.kind ≡ Push) × (r ≡ Entry t.to)
+into_here steps k r e root f = (f.step, f.found, f.passes.0, root ∙ ap (λ s. Entry s) (sym f.passes.1))
+
+pub fills_listed : (steps : List MachineStep) (table : List Pot) (inner : Pot) (e : StateNo) → inner.root ≡ Entry e → (list : List StepNo) → ListsSteps steps (length steps) (IsPushInto e) list
+    → (p : Pot) → Fills steps table inner p → (x : StepNo) × Contains list x × SomePot table (λ prev p. Closes steps prev x inner p) p
+fills_listed steps table inner e root list lists p s =
+    let enters : Enters steps s.gives.item s.number inner = s.gives.gives.gives.meets.enters in (
+      s.number,
+      step_listed steps (IsPushInto e) list lists s.number
+          (record { step = enters.push.step; found = enters.push.found; passes = (enters.push.passes.0, entry_same inner.root enters.push.step.to e enters.under root) }),
+      s.gives,
+    )

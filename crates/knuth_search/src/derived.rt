@@ -1,0 +1,30 @@
+ghost use Rattle.std.specs.Prelude.{◌≡◌};
+ghost use Rattle.segment_grammar.specs.Pots.{pot};
+
+use deriv_arena::Deriv;
+use ml_base::{Root, StateNo, Weight};
+use segment_grammar::Pot;
+
+/// A pair of a root and a state with a weight and a derivation of it. The order is that of the weights, then of the pairs.
+#[derive(Clone, Copy)]
+#[derive_where(PartialEq, Eq, PartialOrd, Ord)]
+pub struct Derived<'a> {
+    pub weight: Weight,
+    pub root: Root,
+    pub state: StateNo,
+    #[derive_where(skip)]
+    pub deriv: &'a Deriv<'a>,
+}
+
+impl<'a> Derived<'a> {
+    /// The pair with its weight.
+    pub fn pot(&self) -> Pot
+        ensures { result ≡ pot self.now.root self.now.state self.now.weight }
+    {
+        Pot {
+            root: self.root,
+            state: self.state,
+            weight: self.weight,
+        }
+    }
+}

@@ -1,0 +1,14 @@
+//! The cheapest segments of a pushdown machine: each reached pair with its least weight and a derivation of it.
+#![tactic(auto)]
+
+mod derived;
+mod queue;
+mod run;
+mod settle;
+mod settled;
+mod table;
+#[cfg(test)]
+mod tests;
+
+pub use run::search;
+pub use settled::Settled;

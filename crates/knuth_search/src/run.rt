@@ -1,0 +1,128 @@
+ghost use Rattle.std.specs.Prelude.{◌≡◌, ◌<◌, [], IfOk};
+ghost use Rattle.std.specs.List.{Contains};
+ghost use Rattle.ml_base.specs.declared.numbers.StateNo.{StateNo};
+ghost use Rattle.ml_base.specs.declared.numbers.Root.TheVariants.{Request};
+ghost use Rattle.segment_grammar.specs.Index.{IsIndexOf};
+ghost use Rattle.segment_grammar.specs.Pots.{pot};
+ghost use Rattle.knuth_search.specs.Following.{zero, Offers};
+ghost use Rattle.knuth_search.specs.Searching.{Begins, Turns, IsComplete};
+ghost use Rattle.knuth_search.specs.Settled.{IsSettledOf};
+ghost use Rattle.knuth_search.specs.Tables.{pot_of, IsKept};
+
+use crate::derived::Derived;
+use crate::queue::Queue;
+use crate::settle::{Setting, settle};
+use crate::settled::{Settled, gather};
+use crate::table::Table;
+use adapt_machine::Machine;
+use bumpalo::Bump;
+use deriv_arena::root;
+use ml_base::{NoMemory, Root, StateNo, Weight};
+use segment_grammar::Index;
+use std::alloc::Global;
+
+fn begin_at<'m, 'a>(
+    arena: &'a Bump,
+    queue: &mut Queue<'m, 'a>,
+    start: StateNo,
+) -> Result<(), NoMemory>
+    requires start { Contains queue.old.task.starts start }
+    requires within { start.0 < queue.old.task.machine.states }
+    ensures task { queue.new.task ≡ queue.old.task }
+    ensures offers { IfOk result (λ _. Offers [] (λ p. p ≡ pot Request start zero) queue.old.pots queue.new.pots) }
+{
+    let deriv = root(arena, start)?;
+    queue.push(Derived {
+        weight: Weight::zero(),
+        root: Root::Request,
+        state: start,
+        deriv,
+    })?;
+    Ok(())
+}
+
+fn begin<'m, 'a>(
+    arena: &'a Bump,
+    queue: &mut Queue<'m, 'a>,
+    starts: &[StateNo],
+) -> Result<(), NoMemory>
+    requires starts { queue.old.task.starts ≡ starts.now }
+    requires within { (a : StateNo) → Contains starts.now a → a.0 < queue.old.task.machine.states }
+    ensures task { queue.new.task ≡ queue.old.task }
+    ensures offers { IfOk result (λ _. Offers [] (λ p. Begins starts.now p) queue.old.pots queue.new.pots) }
+{
+    for number in 0..starts.len() {
+        begin_at(arena, queue, starts[number])?;
+    }
+    Ok(())
+}
+
+/// Settles the pair, if the table has it at no less.
+fn turn<'m, 'a>(
+    setting: Setting<'m, 'a>,
+    table: &mut Table<'m, 'a>,
+    queue: &mut Queue<'m, 'a>,
+    next: Derived<'a>,
+) -> Result<(), NoMemory>
+    requires table { table.old.task ≡ queue.old.task }
+    requires machine { queue.old.task.machine ≡ setting.machine.now }
+    requires index { IsIndexOf setting.machine.now setting.index.now }
+    requires kept { IsKept queue.old.task next }
+    ensures table_task { table.new.task ≡ table.old.task }
+    ensures queue_task { queue.new.task ≡ queue.old.task }
+    ensures turns { IfOk result (λ _. Turns setting.entry.machine.now.steps table.old.pots queue.old.pots (pot_of next.entry) table.new.pots queue.new.pots) }
+{
+    if table.covers(next.pot()) {
+        return Ok(());
+    }
+    table.put(next)?;
+    settle(setting, table, queue, next)?;
+    Ok(())
+}
+
+/// The reached pairs in a table, each with its least weight and a derivation.
+fn search_table<'m, 'a>(
+    alloc: Global,
+    machine: &'m Machine,
+    index: &'m Index,
+    starts: &'m [StateNo],
+    arena: &'a Bump,
+) -> Result<Table<'m, 'a>, NoMemory>
+    requires index { IsIndexOf machine.now index.now }
+    requires starts { (a : StateNo) → Contains starts.now a → a.0 < machine.now.states }
+    ensures task { IfOk result (λ t. t.task ≡ record { machine = machine.now; starts = starts.now }) }
+    ensures complete { IfOk result (λ t. IsComplete machine.now.steps starts.now t.pots) }
+{
+    let setting = Setting {
+        machine,
+        index,
+        arena,
+    };
+    let mut table = Table::new(alloc, machine, starts)?;
+    let mut queue = Queue::new(alloc, machine, starts);
+    begin(arena, &mut queue, starts)?;
+    for _ in 0..u64::MAX {
+        let Some(next) = queue.pop() else {
+            return Ok(table);
+        };
+        turn(setting, &mut table, &mut queue, next)?;
+    }
+    Err(NoMemory)
+}
+
+/// The reached pairs of the machine, each with its least weight and a derivation of it, which lies in the arena.
+pub fn search<'a>(
+    alloc: Global,
+    machine: &Machine,
+    index: &Index,
+    starts: &[StateNo],
+    arena: &'a Bump,
+) -> Result<Settled<'a>, NoMemory>
+    requires index { IsIndexOf machine.now index.now }
+    requires starts { (a : StateNo) → Contains starts.now a → a.0 < machine.now.states }
+    ensures { IfOk result (λ s. IsSettledOf machine.now starts.now s) }
+{
+    let table = search_table(alloc, machine, index, starts, arena)?;
+    let settled = gather(alloc, &table)?;
+    Ok(settled)
+}

@@ -1,0 +1,421 @@
+ghost use Rattle.std.specs.Prelude.{◌≡◌, ◌↔◌, ◌⊎◌, IsTrue, IfOk, List, Some, slice_get};
+ghost use Rattle.ml_base.specs.declared.numbers.Root.TheVariants.{Entry};
+ghost use Rattle.segment_grammar.specs.Index.{IsFlatFrom, IsPushFrom, IsIndexOf};
+ghost use Rattle.adapt_machine.specs.declared.MachineStep.{MachineStep};
+ghost use Rattle.adapt_machine.specs.declared.MachineKind.TheVariants.{Push};
+ghost use Rattle.knuth_search.specs.Following.{stepped, IsStepOf, Enters, Meets, FlatBy, OpenedBy, NestedBy, Closes, PushedBy, Extends, Fills, SomeStep, SomePot, AtPlace, Offers};
+ghost use Rattle.knuth_search.specs.Tables.{pot_of, IsKept};
+
+use crate::derived::Derived;
+use crate::queue::Queue;
+use crate::table::Table;
+use adapt_machine::{Machine, MachineStep};
+use bumpalo::Bump;
+use deriv_arena::{flat, nest, root};
+use ml_base::{NoMemory, Root, StateNo, StepNo, Weight};
+use segment_grammar::{Index, Pot};
+
+/// What a search works on.
+#[derive(Clone, Copy)]
+pub struct Setting<'m, 'a> {
+    pub machine: &'m Machine,
+    pub index: &'m Index,
+    pub arena: &'a Bump,
+}
+
+/// The weight with one more step.
+fn stepped(weight: Weight, step: MachineStep) -> Weight
+    ensures { result ≡ stepped weight step }
+{
+    weight.plus(Weight::known(step.cost, 1))
+}
+
+/// Offers what a flat step makes of the pair.
+fn offer_flat<'m, 'a>(
+    setting: Setting<'m, 'a>,
+    table: &Table<'m, 'a>,
+    queue: &mut Queue<'m, 'a>,
+    prev: Derived<'a>,
+    number: StepNo,
+) -> Result<(), NoMemory>
+    requires table { table.now.task ≡ queue.old.task }
+    requires machine { queue.old.task.machine ≡ setting.machine.now }
+    requires kept { IsKept queue.old.task prev }
+    requires flat { IsStepOf setting.machine.now.steps (IsFlatFrom prev.state) number }
+    ensures task { queue.new.task ≡ queue.old.task }
+    ensures offers { IfOk result (λ _. Offers table.now.pots (FlatBy setting.entry.machine.now.steps (pot_of prev.entry) number) queue.old.pots queue.new.pots) }
+{
+    let step = setting.machine.step(number);
+    let pot = Pot {
+        root: prev.root,
+        state: step.to,
+        weight: stepped(prev.weight, step),
+    };
+    if table.covers(pot) {
+        return Ok(());
+    }
+    let deriv = flat(setting.arena, setting.machine, prev.deriv, number)?;
+    queue.push(Derived {
+        weight: pot.weight,
+        root: pot.root,
+        state: pot.state,
+        deriv,
+    })?;
+    Ok(())
+}
+
+/// Offers what a nest makes of the pair: a push, an inner pair and a pop.
+fn offer_nest<'m, 'a>(
+    setting: Setting<'m, 'a>,
+    table: &Table<'m, 'a>,
+    queue: &mut Queue<'m, 'a>,
+    prev: Derived<'a>,
+    push: StepNo,
+    inner: Derived<'a>,
+    pop: StepNo,
+) -> Result<(), NoMemory>
+    requires table { table.now.task ≡ queue.old.task }
+    requires machine { queue.old.task.machine ≡ setting.machine.now }
+    requires kept { IsKept queue.old.task prev }
+    requires inner { IsKept queue.old.task inner }
+    requires meets { Meets setting.machine.now.steps (pot_of prev) push (pot_of inner) pop }
+    ensures task { queue.new.task ≡ queue.old.task }
+    ensures offers { IfOk result (λ _. Offers table.now.pots (NestedBy setting.entry.machine.now.steps (pot_of prev.entry) push (pot_of inner.entry) pop) queue.old.pots queue.new.pots) }
+{
+    let pushed = setting.machine.step(push);
+    let popped = setting.machine.step(pop);
+    let base = stepped(prev.weight, pushed).plus(inner.weight);
+    let pot = Pot {
+        root: prev.root,
+        state: popped.to,
+        weight: stepped(base, popped),
+    };
+    if table.covers(pot) {
+        return Ok(());
+    }
+    let deriv = nest(
+        setting.arena,
+        setting.machine,
+        prev.deriv,
+        push,
+        inner.deriv,
+        pop,
+    )?;
+    queue.push(Derived {
+        weight: pot.weight,
+        root: pot.root,
+        state: pot.state,
+        deriv,
+    })?;
+    Ok(())
+}
+
+/// Offers the state that a push enters as a root, at itself.
+fn open<'m, 'a>(
+    setting: Setting<'m, 'a>,
+    table: &Table<'m, 'a>,
+    queue: &mut Queue<'m, 'a>,
+    prev: Derived<'a>,
+    number: StepNo,
+) -> Result<(), NoMemory>
+    requires table { table.now.task ≡ queue.old.task }
+    requires machine { queue.old.task.machine ≡ setting.machine.now }
+    requires kept { IsKept queue.old.task prev }
+    requires push { IsStepOf setting.machine.now.steps (IsPushFrom prev.state) number }
+    ensures task { queue.new.task ≡ queue.old.task }
+    ensures offers { IfOk result (λ _. Offers table.now.pots (OpenedBy setting.entry.machine.now.steps (pot_of prev.entry) number) queue.old.pots queue.new.pots) }
+{
+    let step = setting.machine.step(number);
+    let pot = Pot {
+        root: Root::Entry(step.to),
+        state: step.to,
+        weight: Weight::zero(),
+    };
+    if table.covers(pot) {
+        return Ok(());
+    }
+    let deriv = root(setting.arena, step.to)?;
+    queue.push(Derived {
+        weight: pot.weight,
+        root: pot.root,
+        state: pot.state,
+        deriv,
+    })?;
+    Ok(())
+}
+
+/// Offers what each flat step makes of the pair.
+fn flats<'m, 'a>(
+    setting: Setting<'m, 'a>,
+    table: &Table<'m, 'a>,
+    queue: &mut Queue<'m, 'a>,
+    prev: Derived<'a>,
+) -> Result<(), NoMemory>
+    requires table { table.now.task ≡ queue.old.task }
+    requires machine { queue.old.task.machine ≡ setting.machine.now }
+    requires index { IsIndexOf setting.machine.now setting.index.now }
+    requires kept { IsKept queue.old.task prev }
+    ensures task { queue.new.task ≡ queue.old.task }
+    ensures offers { IfOk result (λ _. Offers table.now.pots (λ p. SomeStep (λ k p. FlatBy setting.entry.machine.now.steps (pot_of prev.entry) k p) p) queue.old.pots queue.new.pots) }
+{
+    let numbers = setting.index.flats(prev.state);
+    for number in 0..numbers.len() {
+        offer_flat(setting, table, queue, prev, numbers[number])?;
+    }
+    Ok(())
+}
+
+/// Offers what each pop that matches the push makes of the two pairs.
+fn close<'m, 'a>(
+    setting: Setting<'m, 'a>,
+    table: &Table<'m, 'a>,
+    queue: &mut Queue<'m, 'a>,
+    prev: Derived<'a>,
+    push: StepNo,
+    inner: Derived<'a>,
+) -> Result<(), NoMemory>
+    requires table { table.now.task ≡ queue.old.task }
+    requires machine { queue.old.task.machine ≡ setting.machine.now }
+    requires index { IsIndexOf setting.machine.now setting.index.now }
+    requires kept { IsKept queue.old.task prev }
+    requires inner { IsKept queue.old.task inner }
+    requires enters { Enters setting.machine.now.steps (pot_of prev) push (pot_of inner) }
+    ensures task { queue.new.task ≡ queue.old.task }
+    ensures offers { IfOk result (λ _. Offers table.now.pots (λ p. Closes setting.entry.machine.now.steps (pot_of prev.entry) push (pot_of inner.entry) p) queue.old.pots queue.new.pots) }
+{
+    let pushed = setting.machine.step(push);
+    let pops = setting.index.pops(inner.state, pushed.frame);
+    for number in 0..pops.len() {
+        offer_nest(setting, table, queue, prev, push, inner, pops[number])?;
+    }
+    Ok(())
+}
+
+fn is_under(inner: Derived<'_>, entry: StateNo) -> bool
+    ensures { IsTrue result ↔ inner.entry.root ≡ Entry entry }
+{
+    inner.root == Root::Entry(entry)
+}
+
+fn is_at(prev: Derived<'_>, state: StateNo) -> bool
+    ensures { IsTrue result ↔ prev.entry.state ≡ state }
+{
+    prev.state == state
+}
+
+/// Offers what the pair, the push and the inner pair at a place give.
+fn nest_at<'m, 'a>(
+    setting: Setting<'m, 'a>,
+    table: &Table<'m, 'a>,
+    queue: &mut Queue<'m, 'a>,
+    prev: Derived<'a>,
+    number: StepNo,
+    place: u64,
+) -> Result<(), NoMemory>
+    requires table { table.now.task ≡ queue.old.task }
+    requires machine { queue.old.task.machine ≡ setting.machine.now }
+    requires index { IsIndexOf setting.machine.now setting.index.now }
+    requires kept { IsKept queue.old.task prev }
+    requires push { IsStepOf setting.machine.now.steps (IsPushFrom prev.state) number }
+    ensures task { queue.new.task ≡ queue.old.task }
+    ensures offers { IfOk result (λ _. Offers table.now.pots (AtPlace table.now.pots (λ inner p. Closes setting.entry.machine.now.steps (pot_of prev.entry) number inner p) place) queue.old.pots queue.new.pots) }
+{
+    let pushed = setting.machine.step(number);
+    let Some(inner) = table.item(place) else {
+        return Ok(());
+    };
+    if !is_under(inner, pushed.to) {
+        return Ok(());
+    }
+    close(setting, table, queue, prev, number, inner)?;
+    Ok(())
+}
+
+/// Offers what the pair, the push and each settled inner pair give.
+fn nests<'m, 'a>(
+    setting: Setting<'m, 'a>,
+    table: &Table<'m, 'a>,
+    queue: &mut Queue<'m, 'a>,
+    prev: Derived<'a>,
+    number: StepNo,
+) -> Result<(), NoMemory>
+    requires table { table.now.task ≡ queue.old.task }
+    requires machine { queue.old.task.machine ≡ setting.machine.now }
+    requires index { IsIndexOf setting.machine.now setting.index.now }
+    requires kept { IsKept queue.old.task prev }
+    requires push { IsStepOf setting.machine.now.steps (IsPushFrom prev.state) number }
+    ensures task { queue.new.task ≡ queue.old.task }
+    ensures offers { IfOk result (λ _. Offers table.now.pots (λ p. SomePot table.now.pots (λ inner p. Closes setting.entry.machine.now.steps (pot_of prev.entry) number inner p) p) queue.old.pots queue.new.pots) }
+{
+    let pushed = setting.machine.step(number);
+    let places = table.under(pushed.to);
+    for number_of_place in 0..places.len() {
+        nest_at(setting, table, queue, prev, number, places[number_of_place])?;
+    }
+    Ok(())
+}
+
+/// Offers what follows from the pair by the push.
+fn push_by<'m, 'a>(
+    setting: Setting<'m, 'a>,
+    table: &Table<'m, 'a>,
+    queue: &mut Queue<'m, 'a>,
+    prev: Derived<'a>,
+    number: StepNo,
+) -> Result<(), NoMemory>
+    requires table { table.now.task ≡ queue.old.task }
+    requires machine { queue.old.task.machine ≡ setting.machine.now }
+    requires index { IsIndexOf setting.machine.now setting.index.now }
+    requires kept { IsKept queue.old.task prev }
+    requires push { IsStepOf setting.machine.now.steps (IsPushFrom prev.state) number }
+    ensures task { queue.new.task ≡ queue.old.task }
+    ensures offers { IfOk result (λ _. Offers table.now.pots (PushedBy setting.entry.machine.now.steps table.now.pots (pot_of prev.entry) number) queue.old.pots queue.new.pots) }
+{
+    open(setting, table, queue, prev, number)?;
+    nests(setting, table, queue, prev, number)?;
+    Ok(())
+}
+
+/// Offers what follows from the pair by each push.
+fn pushes<'m, 'a>(
+    setting: Setting<'m, 'a>,
+    table: &Table<'m, 'a>,
+    queue: &mut Queue<'m, 'a>,
+    prev: Derived<'a>,
+) -> Result<(), NoMemory>
+    requires table { table.now.task ≡ queue.old.task }
+    requires machine { queue.old.task.machine ≡ setting.machine.now }
+    requires index { IsIndexOf setting.machine.now setting.index.now }
+    requires kept { IsKept queue.old.task prev }
+    ensures task { queue.new.task ≡ queue.old.task }
+    ensures offers { IfOk result (λ _. Offers table.now.pots (λ p. SomeStep (λ k p. PushedBy setting.entry.machine.now.steps table.now.pots (pot_of prev.entry) k p) p) queue.old.pots queue.new.pots) }
+{
+    let numbers = setting.index.pushes(prev.state);
+    for number in 0..numbers.len() {
+        push_by(setting, table, queue, prev, numbers[number])?;
+    }
+    Ok(())
+}
+
+/// Offers what the pair at a place, the push and the inner pair give.
+fn fill_at<'m, 'a>(
+    setting: Setting<'m, 'a>,
+    table: &Table<'m, 'a>,
+    queue: &mut Queue<'m, 'a>,
+    inner: Derived<'a>,
+    number: StepNo,
+    place: u64,
+) -> Result<(), NoMemory>
+    requires table { table.now.task ≡ queue.old.task }
+    requires machine { queue.old.task.machine ≡ setting.machine.now }
+    requires index { IsIndexOf setting.machine.now setting.index.now }
+    requires inner { IsKept queue.old.task inner }
+    requires into { (t : MachineStep) × (slice_get setting.machine.now.steps number.0 ≡ Some t) × (t.kind ≡ Push) × (inner.root ≡ Entry t.to) }
+    ensures task { queue.new.task ≡ queue.old.task }
+    ensures offers { IfOk result (λ _. Offers table.now.pots (AtPlace table.now.pots (λ prev p. Closes setting.entry.machine.now.steps prev number (pot_of inner.entry) p) place) queue.old.pots queue.new.pots) }
+{
+    let pushed = setting.machine.step(number);
+    let Some(prev) = table.item(place) else {
+        return Ok(());
+    };
+    if !is_at(prev, pushed.from) {
+        return Ok(());
+    }
+    close(setting, table, queue, prev, number, inner)?;
+    Ok(())
+}
+
+/// Offers what each pair that waits at the push gives with the inner pair.
+fn fill_by<'m, 'a>(
+    setting: Setting<'m, 'a>,
+    table: &Table<'m, 'a>,
+    queue: &mut Queue<'m, 'a>,
+    inner: Derived<'a>,
+    number: StepNo,
+) -> Result<(), NoMemory>
+    requires table { table.now.task ≡ queue.old.task }
+    requires machine { queue.old.task.machine ≡ setting.machine.now }
+    requires index { IsIndexOf setting.machine.now setting.index.now }
+    requires inner { IsKept queue.old.task inner }
+    requires into { (t : MachineStep) × (slice_get setting.machine.now.steps number.0 ≡ Some t) × (t.kind ≡ Push) × (inner.root ≡ Entry t.to) }
+    ensures task { queue.new.task ≡ queue.old.task }
+    ensures offers { IfOk result (λ _. Offers table.now.pots (λ p. SomePot table.now.pots (λ prev p. Closes setting.entry.machine.now.steps prev number (pot_of inner.entry) p) p) queue.old.pots queue.new.pots) }
+{
+    let pushed = setting.machine.step(number);
+    let places = table.at(pushed.from);
+    for number_of_place in 0..places.len() {
+        fill_at(
+            setting,
+            table,
+            queue,
+            inner,
+            number,
+            places[number_of_place],
+        )?;
+    }
+    Ok(())
+}
+
+/// Offers what the pair gives as the inner part of a nest over each push into its root.
+fn fill_under<'m, 'a>(
+    setting: Setting<'m, 'a>,
+    table: &Table<'m, 'a>,
+    queue: &mut Queue<'m, 'a>,
+    inner: Derived<'a>,
+    entry: StateNo,
+) -> Result<(), NoMemory>
+    requires table { table.now.task ≡ queue.old.task }
+    requires machine { queue.old.task.machine ≡ setting.machine.now }
+    requires index { IsIndexOf setting.machine.now setting.index.now }
+    requires inner { IsKept queue.old.task inner }
+    requires root { inner.root ≡ Entry entry }
+    ensures task { queue.new.task ≡ queue.old.task }
+    ensures offers { IfOk result (λ _. Offers table.now.pots (λ p. Fills setting.entry.machine.now.steps table.now.pots (pot_of inner.entry) p) queue.old.pots queue.new.pots) }
+{
+    let numbers = setting.index.pushes_into(entry);
+    for number in 0..numbers.len() {
+        fill_by(setting, table, queue, inner, numbers[number])?;
+    }
+    Ok(())
+}
+
+/// Offers what the pair gives as the inner part of a nest.
+fn fill<'m, 'a>(
+    setting: Setting<'m, 'a>,
+    table: &Table<'m, 'a>,
+    queue: &mut Queue<'m, 'a>,
+    inner: Derived<'a>,
+) -> Result<(), NoMemory>
+    requires table { table.now.task ≡ queue.old.task }
+    requires machine { queue.old.task.machine ≡ setting.machine.now }
+    requires index { IsIndexOf setting.machine.now setting.index.now }
+    requires inner { IsKept queue.old.task inner }
+    ensures task { queue.new.task ≡ queue.old.task }
+    ensures offers { IfOk result (λ _. Offers table.now.pots (λ p. Fills setting.entry.machine.now.steps table.now.pots (pot_of inner.entry) p) queue.old.pots queue.new.pots) }
+{
+    let Root::Entry(entry) = inner.root else {
+        return Ok(());
+    };
+    fill_under(setting, table, queue, inner, entry)?;
+    Ok(())
+}
+
+/// Offers what follows from a settled pair.
+pub fn settle<'m, 'a>(
+    setting: Setting<'m, 'a>,
+    table: &Table<'m, 'a>,
+    queue: &mut Queue<'m, 'a>,
+    next: Derived<'a>,
+) -> Result<(), NoMemory>
+    requires table { table.now.task ≡ queue.old.task }
+    requires machine { queue.old.task.machine ≡ setting.machine.now }
+    requires index { IsIndexOf setting.machine.now setting.index.now }
+    requires kept { IsKept queue.old.task next }
+    ensures task { queue.new.task ≡ queue.old.task }
+    ensures offers { IfOk result (λ _. Offers table.now.pots (λ p. Extends setting.entry.machine.now.steps table.now.pots (pot_of next.entry) p ⊎ Fills setting.entry.machine.now.steps table.now.pots (pot_of next.entry) p) queue.old.pots queue.new.pots) }
+{
+    flats(setting, table, queue, next)?;
+    pushes(setting, table, queue, next)?;
+    fill(setting, table, queue, next)?;
+    Ok(())
+}
