@@ -1,5 +1,5 @@
 -- The outcome by capped weights is the outcome, over all walks and over those of kept labels.
-use Rattle.std.proofs.Common.{◌≡◌, ◌⊎◌, ◌<◌, ◌≤◌, ◌^◌, ℕ, inl, inr, refl, sym, ◌∙◌, ap, subst, min, arith}
+use Rattle.std.proofs.Common.{◌≡◌, ◌⊎◌, ◌<◌, ◌≤◌, ◌^◌, ◌↔◌, ℕ, inl, inr, refl, sym, ◌∙◌, ap, subst, min, arith}
 use Rattle.std.proofs.Math.Nat.{min-le_left}
 use Rattle.std.proofs.lemmas.Grind.{common_steps}
 use Rattle.ml_base.specs.Weight.{FullWeight, IsAtMost, IsCappedAtMost, cap}
@@ -10,15 +10,15 @@ use Rattle.circuit_spec.specs.declared.hops.TheConstants.{HOP_LIMIT}
 use Rattle.circuit_spec.specs.declared.hops.Outcome.{Outcome}
 use Rattle.circuit_spec.specs.declared.hops.Outcome.TheVariants as outcome
 use Rattle.circuit_spec.specs.Network.{Topology}
-use Rattle.circuit_spec.specs.Steps.{Walk, IsLeastWeight, IsOutcome, weight_of}
-use Rattle.circuit_spec.specs.CappedOutcome.{IsLeastCapped, IsCappedOutcome, IsExact}
+use Rattle.circuit_spec.specs.Steps.{Walk, IsLeastCapped, IsLeastWeight, IsOutcome, weight_of}
+use Rattle.circuit_spec.specs.CappedOutcome.{IsCappedOutcome}
 
 -- Capping.
 
 pub cap_order : (a b : FullWeight) → IsAtMost a b → IsCappedAtMost (cap a) (cap b)
 cap_order a b h = grind (arith, common_steps)
 
-cap_known : (w : FullWeight) (c h : ℕ) → cap w ≡ Known c h → (w.cost < 2 ^ 64) × (w.cost ≡ c) × (min w.hops (2 ^ 40) ≡ h)
+pub cap_known : (w : FullWeight) (c h : ℕ) → cap w ≡ Known c h → (w.cost < 2 ^ 64) × (w.cost ≡ c) × (min w.hops (2 ^ 40) ≡ h)
 cap_known w c h e = grind (arith, common_steps)
 
 cap_past : (w : FullWeight) → cap w ≡ Past → 2 ^ 64 ≤ w.cost
@@ -44,7 +44,7 @@ capped_below c h small below = grind (arith, common_steps)
 over_limit : (n h : ℕ) → min n (2 ^ 40) ≡ h → 65536 < n → 65536 < h
 over_limit n h e over = grind (arith, common_steps)
 
-one_capped : (v w : Weight) → IsCappedAtMost v w → IsCappedAtMost w v → v ≡ w
+pub one_capped : (v w : Weight) → IsCappedAtMost v w → IsCappedAtMost w v → v ≡ w
 one_capped (Known a h) (Known b k) p q = known_on a h b k p q where
   known_on : (a h b k : ℕ) → (a < b) ⊎ ((a ≡ b) × (h ≤ k)) → (b < a) ⊎ ((b ≡ a) × (k ≤ h)) → Known a h ≡ Known b k
   known_on a h b k (inl x) (inl y) = absurd (omega arith)
@@ -77,17 +77,15 @@ exact_least T r c h least below =
       small,
     )
 
-pub exact_outcome : (T : Topology) (r : Request) (o : Outcome) → IsExact o → IsCappedOutcome T (Walk T r) o → IsOutcome T r o
-exact_outcome T r outcome.NoWalk exact is = is
-exact_outcome T r outcome.Past exact is =
+pub exact_outcome : (T : Topology) (r : Request) (o : Outcome) → IsCappedOutcome T (Walk T r) o → IsOutcome T r o
+exact_outcome T r outcome.NoWalk is = is
+exact_outcome T r outcome.Past is =
     ((is.hops, is.holds), λ hops walk. cap_past (weight_of T hops) (only_past (cap (weight_of T hops)) (is.least hops walk)))
-exact_outcome T r (outcome.Found c h) exact is =
+exact_outcome T r (outcome.Found c h) is =
     let within : h ≤ HOP_LIMIT = is.1 in
     let least = exact_least T r c h is.0 (omega (arith, within)) in
     (least.0, least.1, is.1)
-exact_outcome T r (outcome.Long c h) exact is =
-    let least = exact_least T r c h is.0 exact in
-    (full c h, least.0, least.1, is.1, capped_below c h least.1 exact)
+exact_outcome T r (outcome.Long c h) is = is
 
 -- a least weight has the least capped weight
 same_capped : (T : Topology) (r : Request) (v : Weight) (w : FullWeight) → IsLeastCapped T (Walk T r) v → IsLeastWeight T r w → cap w ≡ v
@@ -95,13 +93,6 @@ same_capped T r v w capped least =
     let up = subst (λ x. IsCappedAtMost v (cap x)) least.weight (capped.least least.hops least.walk) in
     let down = subst (λ x. IsCappedAtMost (cap w) x) capped.weight (cap_order w (weight_of T capped.hops) (least.least capped.hops capped.holds)) in
     one_capped (cap w) v down up
-
-pub long_outcome : (T : Topology) (r : Request) (c h : ℕ) (w : FullWeight) → IsLeastWeight T r w → IsCappedOutcome T (Walk T r) (outcome.Long c h) → IsOutcome T r (outcome.Long c h)
-long_outcome T r c h w least is =
-    let same = same_capped T r (Known c h) w is.0 least in
-    let at = cap_known w c h same in
-    let over : HOP_LIMIT < h = is.1 in
-    (w, least, at.0, omega (arith, at.2, min-le_left w.hops (2 ^ 40), over), same)
 
 -- To capped weights.
 
@@ -127,5 +118,15 @@ capped_outcome T r outcome.Past is = record {
 capped_outcome T r (outcome.Found c h) is =
     let within : h ≤ HOP_LIMIT = is.2 in
     (least_capped T r (full c h) (Known c h) is.0 (capped_below c h is.1 (omega (arith, within))), is.2)
-capped_outcome T r (outcome.Long c h) (w, least, small, over, capped) =
-    (least_capped T r w (Known c h) least capped, over_limit w.hops h (cap_known w c h capped).2 over)
+capped_outcome T r (outcome.Long c h) is = is
+
+-- where there is a least weight, the outcome is long exactly where its hops are over the limit, and it is stated as it is capped
+pub long_outcome : (T : Topology) (r : Request) (w : FullWeight) (c h : ℕ) → IsLeastWeight T r w → IsOutcome T r (outcome.Long c h) ↔ ((HOP_LIMIT < w.hops) × (cap w ≡ Known c h))
+long_outcome T r w c h least = (
+  λ is.
+    let same = same_capped T r (Known c h) w is.0 least in
+    let at = cap_known w c h same in
+    let over : HOP_LIMIT < h = is.1 in
+    (omega (arith, at.2, min-le_left w.hops (2 ^ 40), over), same),
+  λ both. (least_capped T r w (Known c h) least both.1, over_limit w.hops h (cap_known w c h both.1).2 both.0),
+)

@@ -9,11 +9,11 @@ use Rattle.circuit_spec.specs.declared.hops.Request.{Request}
 use Rattle.circuit_spec.specs.declared.hops.Outcome.{Outcome}
 use Rattle.circuit_spec.specs.declared.hops.Outcome.TheVariants as outcome
 use Rattle.circuit_spec.specs.Network.{Name, Topology}
-use Rattle.circuit_spec.specs.Steps.{Run, Walk, weight_of}
+use Rattle.circuit_spec.specs.Steps.{IsLeastCapped, Run, Walk, weight_of}
 use Rattle.circuit_spec.specs.Segments.{request, unit_in, IsWalkOverKept, IsTarget, IsSegmentOf}
 use Rattle.circuit_spec.specs.Keeping.{GivesKeepers, Keeping, kept_hops}
 use Rattle.circuit_spec.specs.Faults.{IsSound}
-use Rattle.circuit_spec.specs.CappedOutcome.{IsLeastCapped, IsCappedOutcome}
+use Rattle.circuit_spec.specs.CappedOutcome.{IsCappedOutcome}
 use Rattle.circuit_spec.proofs.KeptRuns.{walk_kept, same_weight}
 
 -- Walks and segments.

@@ -2,7 +2,8 @@
 use Rattle.std.specs.Prelude.{◌≡◌, ℕ, ◌^◌, ◌<◌, ◌≤◌, ◌⊎◌, List, [], ◌∷◌, ◌++◌, Bool, true, ◌&&◌, cond, IsTrue, Option, None, Some, is_none, unwrap_or, option_map, length, filter, sum_by}
 use Rattle.std.specs.List.{filter_map, flat_map}
 use Rattle.std.specs.Str.{bytes_eq}
-use Rattle.ml_base.specs.Weight.{FullWeight, IsAtMost, cap}
+use Rattle.ml_base.specs.Weight.{FullWeight, IsAtMost, IsCappedAtMost, cap}
+use Rattle.ml_base.specs.declared.weight.Weight.{Weight}
 use Rattle.ml_base.specs.declared.numbers.Wish.{Wish}
 use Rattle.ml_base.specs.declared.numbers.Wish.TheVariants.{Any, Value}
 use Rattle.ml_base.specs.declared.weight.Weight.TheVariants as weight
@@ -187,8 +188,15 @@ pub record IsLeastWeight (T : Topology) (r : Request) (w : FullWeight) : Type 0 
   pub weight : weight_of T hops ≡ w
   pub least : (others : List Hop) → Walk T r others → IsAtMost w (weight_of T others)
 
+-- Some list of hops of which P holds has this capped weight, and none has a smaller one.
+pub record IsLeastCapped (T : Topology) (P : List Hop → Type 0) (w : Weight) : Type 0 where
+  pub hops : List Hop
+  pub holds : P hops
+  pub weight : cap (weight_of T hops) ≡ w
+  pub least : (others : List Hop) → P others → IsCappedAtMost w (cap (weight_of T others))
+
 -- What becomes of a request: no walk; every walk costs 2 ^ 64 or more; the least weight, within the hop limit; or the
--- least weight as it is capped, where its hops are over the limit.
+-- least weight of the walks as they are capped, where its hops are over the limit.
 abbrev pub IsOutcome : Topology → Request → Outcome → Type 0
 IsOutcome T r NoWalk = (hops : List Hop) → ¬ Walk T r hops
 IsOutcome T r Past =
@@ -197,4 +205,4 @@ IsOutcome T r Past =
 IsOutcome T r (Found cost hops) =
     IsLeastWeight T r (record { cost = cost; hops = hops }) × (cost < 2 ^ 64) × (hops ≤ HOP_LIMIT)
 IsOutcome T r (Long cost hops) =
-    (w : FullWeight) × IsLeastWeight T r w × (w.cost < 2 ^ 64) × (HOP_LIMIT < w.hops) × (cap w ≡ weight.Known cost hops)
+    IsLeastCapped T (Walk T r) (weight.Known cost hops) × (HOP_LIMIT < hops)

@@ -135,10 +135,9 @@ module _ (T : Topology) (r : Request) (edges : List Edge) where
     where
       go : (HOP_LIMIT < hops) ⊎ (hops ≤ HOP_LIMIT) → IsOutcome T r (cond (nat_lt HOP_LIMIT hops) (Long cost hops) (Found cost hops))
       go (inl l) =
-          let k = least_known cost hops b in
-          let make : ℕ → ℕ → FullWeight = λ c h. record { cost = c; hops = h } in
+          let walk = b.walks b.walked.0 b.walked.1 in
           subst (λ o. IsOutcome T r o) (sym (cond-true (nat_lt HOP_LIMIT hops) (Long cost hops) (Found cost hops) (lt-ltb HOP_LIMIT hops l)))
-          (make cost hops, k.0, k.1, l, ap cap (sym k.2) ∙ b.weight)
+          (record { hops = b.walked.0; holds = walk.0; weight = ap cap walk.1 ∙ b.weight; least = b.least }, l)
       go (inr l) =
           let k = least_known cost hops b in
           subst (λ o. IsOutcome T r o) (sym (cond-false (nat_lt HOP_LIMIT hops) (Long cost hops) (Found cost hops) (le-ltb HOP_LIMIT hops l)))

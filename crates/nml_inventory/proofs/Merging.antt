@@ -1,11 +1,11 @@
--- The labels of classes: what meeting the sets of their ports one after another gives.
-use Rattle.std.proofs.Common.{◌≡◌, ◌≢◌, ◌⊎◌, ℕ, zero, suc, ◌+◌, ◌<◌, ◌==◌, inl, inr, List, [], ◌∷◌, ◌++◌, Bool, true, false, ◌&&◌, ◌||◌, not, Option, Some, set, length, get_or, refl, sym, ◌∙◌, ap, subst, arith}
+-- The labels of classes: what meeting the sets of their ports in parts gives.
+use Rattle.std.proofs.Common.{◌≡◌, ◌≢◌, ◌⊎◌, ℕ, zero, suc, ◌+◌, ◌<◌, ◌==◌, inl, inr, List, [], ◌∷◌, ◌++◌, Bool, true, false, ◌&&◌, ◌||◌, not, Option, Some, map, set, length, get_or, refl, sym, ◌∙◌, ap, subst, arith}
 use Rattle.std.specs.Prelude.{slice_get, option_map, unwrap_or, IsTrue}
 use Rattle.std.specs.List.{list_all, range_with_len, AllByRecursion}
-use Rattle.std.proofs.lemmas.Bool.{eq-eqb, eqb-true, ne_eqb, and_parts, and_from}
-use Rattle.std.proofs.lemmas.List.{length-set}
+use Rattle.std.proofs.lemmas.Bool.{eq-eqb, eqb-true, eqb-false, ne_eqb, and_parts, and_from}
+use Rattle.std.proofs.lemmas.List.{length-set, map-set}
 use Rattle.std.proofs.lemmas.List.Folds.{list_all-append}
-use Rattle.std.proofs.lemmas.Option.{slice_get_within}
+use Rattle.std.proofs.lemmas.Option.{slice_get-map, slice_get_within}
 use Rattle.nml_elements.specs.declared.elements.Labels.{Labels}
 use Rattle.nml_elements.specs.declared.elements.Labels.TheVariants.{Unlabelled, Of}
 use Rattle.nml_elements.specs.Labels.{is_among}
@@ -15,7 +15,8 @@ use Rattle.circuit_spec.specs.Network.{Topology, Port, IsClass, IsInClassSet, Li
 use Rattle.circuit_spec.proofs.Among.{among_first}
 use Rattle.circuit_spec.proofs.ClassLemmas.{First-unique, class_of_itself, class_of_linked, linked_back, linked_to_itself}
 use Rattle.nml_inventory.specs.Aliases.{IsClassNumber}
-use Rattle.nml_inventory.specs.ClassSets.{admits, admits_at, all_admit, AreMerged, AreNarrowed, HasNarrowed, IsNarrowed}
+use Rattle.nml_inventory.specs.ClassSets.{admits, admits_at, all_admit, all_have, AreMerged, AreNarrowed, AreParts, ArePartsOf, HasAdded, HasNarrowed, IsNarrowed}
+use Rattle.nml_inventory.specs.declared.labels.Part.{Part}
 use Rattle.nml_inventory.specs.Relations.{AreClassLabels}
 use Rattle.nml_inventory.proofs.ClassNumbers.{port_id}
 use Rattle.nml_inventory.proofs.Distinct.{same_place}
@@ -26,27 +27,26 @@ and_true : (b : Bool) → (b && true) ≡ b
 and_true true = refl
 and_true false = refl
 
-and_self : (b : Bool) → (b && b) ≡ (b && true)
+and_self : (b : Bool) → (b && b) ≡ b
 and_self true = refl
 and_self false = refl
 
-and_assoc : (a b c : Bool) → ((a && b) && c) ≡ (a && (b && c))
-and_assoc true b c = refl
-and_assoc false b c = refl
-
--- a set met with itself
-pub met_itself : (b c : Bool) → c ≡ (b && b) → c ≡ (b && true)
-met_itself b c e = e ∙ and_self b
-
 own_admits : (l : Labels) (label : ℕ) → (is_among l label && admits l label) ≡ (is_among l label && true)
 own_admits Unlabelled label = refl
-own_admits (Of labeltype s) label = and_self (has s label)
+own_admits (Of labeltype s) label = and_self (has s label) ∙ sym (and_true (has s label))
 
--- The labels of each port, at first
+-- The labels of the first ports
 
-pub record AreOwn (T : Topology) (classes : List ℕ) (count : ℕ) (labels : List Labels) : Type 0 where
+pub record IsFirst (T : Topology) (lists : List (List Part)) (number : ℕ) (labels : Labels) : Type 0 where
+  pub port : Port
+  pub parts : List Part
+  pub at : slice_get (ports T) number ≡ Some port
+  pub parts_at : slice_get lists number ≡ Some parts
+  pub narrowed : HasNarrowed port.labels parts labels
+
+pub record AreFirst (T : Topology) (lists : List (List Part)) (count : ℕ) (labels : List Labels) : Type 0 where
   pub long : length labels ≡ count
-  pub each : (number : ℕ) (found : Labels) → slice_get labels number ≡ Some found → IsNarrowed T classes 0 number found
+  pub each : (number : ℕ) (found : Labels) → slice_get labels number ≡ Some found → IsFirst T lists number found
 
 push_cases : {A : Type 0} (xs : List A) (x : A) (n : ℕ) (y : A) → slice_get (xs ++ x ∷ []) n ≡ Some y → (slice_get xs n ≡ Some y) ⊎ ((n ≡ length xs) × (x ≡ y))
 push_cases [] x zero y at = inr (refl, one_of_some at)
@@ -54,12 +54,9 @@ push_cases [] x (suc n) y at = cc
 push_cases (z ∷ xs) x zero y at = inl at
 push_cases (z ∷ xs) x (suc n) y at = elim (push_cases xs x n y at) [ inl e ↦ inl e | inr p ↦ inr (ap suc p.0, p.1) ]
 
-pub own_none : (T : Topology) (classes : List ℕ) → AreOwn T classes 0 []
-own_none T classes = record { long = refl; each = λ number found at. cc }
-
-pub own_more : (T : Topology) (classes : List ℕ) (count : ℕ) (labels : List Labels) (q : Port) (own new : Labels) → AreOwn T classes count labels → slice_get (ports T) count ≡ Some q → own ≡ q.labels → HasNarrowed own own new → AreOwn T classes (count + 1) (labels ++ new ∷ [])
-own_more T classes count labels q own new a at is n = record {
-  long = long labels;
+pub first_more : (T : Topology) (count : ℕ) (labels : List Labels) (lists : List (List Part)) (parts : List Part) (q : Port) (new : Labels) → AreFirst T lists count labels → slice_get lists count ≡ Some parts → slice_get (ports T) count ≡ Some q → HasNarrowed q.labels parts new → AreFirst T lists (count + 1) (labels ++ new ∷ [])
+first_more T count labels lists parts q new a parts_at at n = record {
+  long = omega (arith, long_by labels new, a.long);
   each = λ number found found_at. one number found (push_cases labels new number found found_at);
 }
   where
@@ -67,20 +64,24 @@ own_more T classes count labels q own new a at is n = record {
     long_by [] x = refl
     long_by (y ∷ xs) x = omega (arith, long_by xs x)
 
-    long : (xs : List Labels) → length (labels ++ new ∷ []) ≡ count + 1
-    long xs = omega (arith, long_by labels new, a.long)
+    here : IsFirst T lists count new
+    here = record { port = q; parts = parts; at = at; parts_at = parts_at; narrowed = n }
 
-    one : (number : ℕ) (found : Labels) → (slice_get labels number ≡ Some found) ⊎ ((number ≡ length labels) × (new ≡ found)) → IsNarrowed T classes 0 number found
+    one : (number : ℕ) (found : Labels) → (slice_get labels number ≡ Some found) ⊎ ((number ≡ length labels) × (new ≡ found)) → IsFirst T lists number found
     one number found (inl before) = a.each number found before
-    one number found (inr here) = record {
-      port = q;
-      at = ap (slice_get (ports T)) (here.0 ∙ a.long) ∙ at;
-      typed = ap label_type (sym here.1) ∙ n.typed ∙ ap label_type is;
-      each = λ label. ap (λ (l : Labels). is_among l label) (sym here.1) ∙ n.each label ∙ own_admits own label ∙ ap (λ (l : Labels). is_among l label && true) is;
-    }
+    one number found (inr p) = subst (λ m. IsFirst T lists m found) (sym (p.0 ∙ a.long)) (subst (λ (l : Labels). IsFirst T lists count l) p.1 here)
 
-pub all_own : (T : Topology) (classes : List ℕ) (count : ℕ) (labels : List Labels) → count ≡ length (ports T) → AreOwn T classes count labels → AreNarrowed T classes 0 labels
-all_own T classes count labels e a = record { long = a.long ∙ e; each = a.each }
+pub all_first : (T : Topology) (classes : List ℕ) (count : ℕ) (labels : List Labels) (lists : List (List Part)) → count ≡ length (ports T) → AreFirst T lists count labels → AreParts T classes (length (ports T)) lists → AreNarrowed T classes (length (ports T)) labels
+all_first T classes count labels lists e a all = record {
+  long = a.long ∙ e;
+  each = λ number found found_at.
+      let f = a.each number found found_at in record {
+        port = f.port;
+        at = f.at;
+        typed = f.narrowed.typed;
+        each = λ label. f.narrowed.each label ∙ (all.each number f.parts f.parts_at).each f.port label f.at;
+      };
+}
 
 -- One more port
 
@@ -105,44 +106,79 @@ all_more T classes count class label =
     ap (list_all t) (range_more 0 count) ∙ list_all-append t (range_with_len 0 count) ((0 + count) ∷ [])
     ∙ ap (λ b. list_all t (range_with_len 0 count) && b) (and_true (t (0 + count)) ∙ ap t e)
 
-pub narrowed_more : (T : Topology) (classes : List ℕ) (count : ℕ) (labels : List Labels) (k : ℕ) (old own new : Labels) (q : Port) → AreNarrowed T classes count labels → k ≡ get_or classes count 0 → slice_get labels k ≡ Some old → slice_get (ports T) count ≡ Some q → own ≡ q.labels → HasNarrowed old own new → AreNarrowed T classes (count + 1) (set labels k new)
-narrowed_more T classes count labels k old own new q a is old_at at own_is n = record {
-  long = length-set labels k new ∙ a.long;
-  each = λ number found found_at. one number found (set_cases labels k new number found found_at);
+and_step : (a p f t : Bool) → (a && p) ≡ (a && f) → (a && (p && t)) ≡ (a && (f && t))
+and_step true p f t e = ap (λ b. b && t) e
+and_step false p f t e = refl
+
+and_absorb : (a f t : Bool) → (a && t) ≡ (a && true) → (a && f) ≡ (a && (f && t))
+and_absorb true f t e = sym (ap (λ b. f && b) e ∙ and_true f)
+and_absorb false f t e = refl
+
+-- what one more port asks of the labels of its class
+here_admits : (T : Topology) (classes : List ℕ) (count k : ℕ) (q : Port) (label : ℕ) → k ≡ get_or classes count 0 → slice_get (ports T) count ≡ Some q → all_admit T classes (count + 1) k label ≡ (all_admit T classes count k label && admits q.labels label)
+here_admits T classes count k q label is at =
+    all_more T classes count k label
+    ∙ ap (λ b. all_admit T classes count k label && b)
+    (ap (λ b. not b || admits_at T count label) (eq-eqb (get_or classes count 0) k (sym is))
+    ∙ ap (λ (o : Option Port). unwrap_or (option_map (λ (p : Port). admits p.labels label) o) true) at)
+
+elsewhere_admits : (T : Topology) (classes : List ℕ) (count k number label : ℕ) → k ≡ get_or classes count 0 → number ≢ k → all_admit T classes (count + 1) number label ≡ all_admit T classes count number label
+elsewhere_admits T classes count k number label is apart =
+    all_more T classes count number label
+    ∙ ap (λ b. all_admit T classes count number label && (not b || admits_at T count label)) (ne_eqb (get_or classes count 0) number (λ e. apart (sym e ∙ sym is)))
+    ∙ and_true (all_admit T classes count number label)
+
+kept_parts : (T : Topology) (classes : List ℕ) (count k number : ℕ) (parts : List Part) → k ≡ get_or classes count 0 → number ≢ k → ArePartsOf T classes count number parts → ArePartsOf T classes (count + 1) number parts
+kept_parts T classes count k number parts is apart a = record {
+  each = λ p label p_at. a.each p label p_at ∙ ap (λ b. is_among p.labels label && b) (sym (elsewhere_admits T classes count k number label is apart));
+}
+
+pub parts_more : (T : Topology) (classes : List ℕ) (count : ℕ) (lists : List (List Part)) (k : ℕ) (old new : List Part) (q : Port) → AreParts T classes count lists → k ≡ get_or classes count 0 → slice_get lists k ≡ Some old → slice_get (ports T) count ≡ Some q → HasAdded old (admits q.labels) new → AreParts T classes (count + 1) (set lists k new)
+parts_more T classes count lists k old new q a is old_at at h = record {
+  long = length-set lists k new ∙ a.long;
+  each = λ number found found_at. one number found (set_cases lists k new number found found_at);
 }
   where
-    here : (label : ℕ) → (not (get_or classes count 0 == k) || admits_at T count label) ≡ admits own label
-    here label =
-        ap (λ b. not b || admits_at T count label) (eq-eqb (get_or classes count 0) k (sym is))
-        ∙ ap (λ (o : Option Port). unwrap_or (option_map (λ (p : Port). admits p.labels label) o) true) at
-        ∙ ap (λ (l : Labels). admits l label) (sym own_is)
+    here : ArePartsOf T classes (count + 1) k new
+    here = record {
+      each = λ p label p_at.
+          ap (λ b. is_among p.labels label && b) (h.each label)
+          ∙ and_step (is_among p.labels label) (all_have old label) (all_admit T classes count k label) (admits q.labels label) ((a.each k old old_at).each p label p_at)
+          ∙ ap (λ b. is_among p.labels label && b) (sym (here_admits T classes count k q label is at));
+    }
 
-    one : (number : ℕ) (found : Labels) → ((number ≡ k) × (new ≡ found)) ⊎ ((number ≢ k) × (slice_get labels number ≡ Some found)) → IsNarrowed T classes (count + 1) number found
+    one : (number : ℕ) (found : List Part) → ((number ≡ k) × (new ≡ found)) ⊎ ((number ≢ k) × (slice_get lists number ≡ Some found)) → ArePartsOf T classes (count + 1) number found
     one number found (inl p) =
-        let before = a.each k old old_at in record {
-          port = before.port;
-          at = ap (slice_get (ports T)) p.0 ∙ before.at;
-          typed = ap label_type (sym p.1) ∙ n.typed ∙ before.typed;
-          each = λ label.
-              ap (λ (l : Labels). is_among l label) (sym p.1) ∙ n.each label
-              ∙ ap (λ b. b && admits own label) (before.each label)
-              ∙ and_assoc (is_among before.port.labels label) (all_admit T classes count k label) (admits own label)
-              ∙ ap (λ b. is_among before.port.labels label && (all_admit T classes count k label && b)) (sym (here label))
-              ∙ ap (λ b. is_among before.port.labels label && b) (sym (all_more T classes count k label))
-              ∙ ap (λ m. is_among before.port.labels label && all_admit T classes (count + 1) m label) (sym p.0);
-        }
-    one number found (inr p) =
-        let before = a.each number found p.1 in record {
-          port = before.port;
-          at = before.at;
-          typed = before.typed;
-          each = λ label.
-              before.each label
-              ∙ ap (λ b. is_among before.port.labels label && b)
-              (sym (all_more T classes count number label
-              ∙ ap (λ b. all_admit T classes count number label && (not b || admits_at T count label)) (ne_eqb (get_or classes count 0) number (λ e. p.0 (sym e ∙ sym is)))
-              ∙ and_true (all_admit T classes count number label)));
-        }
+        subst (λ m. ArePartsOf T classes (count + 1) m found) (sym p.0) (subst (λ (ps : List Part). ArePartsOf T classes (count + 1) k ps) p.1 here)
+    one number found (inr p) = kept_parts T classes count k number found is p.0 (a.each number found p.1)
+
+-- the first port of a class adds nothing to its parts
+pub parts_first : (T : Topology) (classes : List ℕ) (count : ℕ) (lists : List (List Part)) (q : Port) → AreParts T classes count lists → get_or classes count 0 ≡ count → slice_get (ports T) count ≡ Some q → AreParts T classes (count + 1) lists
+parts_first T classes count lists q a is at = record {
+  long = a.long;
+  each = λ number found found_at. one number found found_at (number == count) refl;
+}
+  where
+    one : (number : ℕ) (found : List Part) → slice_get lists number ≡ Some found → (b : Bool) → (number == count) ≡ b → ArePartsOf T classes (count + 1) number found
+    one number found found_at true e = record {
+      each = λ p label p_at.
+          let here : number ≡ count = eqb-true number count e in
+          let same : p ≡ q = one_of_some (sym p_at ∙ ap (slice_get (ports T)) here ∙ at) in
+          (a.each number found found_at).each p label p_at
+          ∙ and_absorb (is_among p.labels label) (all_admit T classes count number label) (admits q.labels label)
+          (ap (λ (x : Port). is_among p.labels label && admits x.labels label) (sym same) ∙ own_admits p.labels label)
+          ∙ ap (λ b. is_among p.labels label && b) (sym (here_admits T classes count number q label (here ∙ sym is) at));
+    }
+    one number found found_at false e = kept_parts T classes count count number found (sym is) (eqb-false number count e) (a.each number found found_at)
+
+-- where the parts stand in lists of some kind
+pub view_at : {V : Type 0} (f : V → List Part) (lists : List V) (k : ℕ) (v : V) → slice_get lists k ≡ Some v → slice_get (map f lists) k ≡ Some (f v)
+view_at f lists k v at = slice_get-map f lists k ∙ ap (option_map f) at
+
+pub list_more : {V : Type 0} (f : V → List Part) (T : Topology) (classes : List ℕ) (count : ℕ) (lists : List V) (k : ℕ) (old new : V) (q : Port) → AreParts T classes count (map f lists) → k ≡ get_or classes count 0 → slice_get lists k ≡ Some old → slice_get (ports T) count ≡ Some q → HasAdded (f old) (admits q.labels) (f new) → AreParts T classes (count + 1) (map f (set lists k new))
+list_more f T classes count lists k old new q a is old_at at h =
+    subst (λ (ls : List (List Part)). AreParts T classes (count + 1) ls) (sym (map-set f lists k new))
+    (parts_more T classes count (map f lists) k (f old) (f new) q a is (view_at f lists k old old_at) at h)
 
 -- What the labels of a class are
 
