@@ -19,7 +19,7 @@ use Rattle.finder_cli.specs.declared.words.Command.{Command}
 use Rattle.finder_cli.specs.declared.words.Command.TheVariants.{Find, Survey}
 use Rattle.finder_cli.specs.Accepting.{IsRejected, IfAccepted}
 use Rattle.finder_cli.specs.Answers.{files_named, Replies, CommandAnswers, Answers}
-use Rattle.finder_cli.specs.Finding.{IsFound, IsFoundIn}
+use Rattle.finder_cli.specs.Finding.{IsFound}
 use Rattle.finder_cli.specs.Status.{status_of}
 use Rattle.finder_cli.specs.Surveying.{IsSurvey}
 use Rattle.finder_cli.specs.Words.{Words, command_of}
@@ -67,17 +67,11 @@ refusal-apart T r solving.NoMemory told p known = told refl
 
 -- ---- the commands
 
-found-in-one : (r : Request) (T : Topology) (a b : Reply) → IsFoundIn r T a → IsFoundIn r T b → SameStatus a b
-found-in-one r T a b (inl p) (inl q) = by-lines a b _ _ p.is q.is refl
-found-in-one r T a b (inl p) (inr q) = absurd (refusal-apart T r p.fault p.told p.cause q.known)
-found-in-one r T a b (inr p) (inl q) = absurd (refusal-apart T r q.fault q.told q.cause p.known)
-found-in-one r T a b (inr p) (inr q) = by-lines a b _ _ p.is q.is (ap status_of (one_outcome T r p.outcome q.outcome p.is_outcome q.is_outcome))
-
 found-one : (r : Request) (T : Topology) (a b : Reply) → IsFound r T a → IsFound r T b → SameStatus a b
 found-one r T a b (inl p) (inl q) = by-lines a b _ _ p.is q.is refl
-found-one r T a b (inl p) (inr q) = absurd (p.uncovered q.0)
-found-one r T a b (inr p) (inl q) = absurd (q.uncovered p.0)
-found-one r T a b (inr p) (inr q) = found-in-one r T a b p.1 q.1
+found-one r T a b (inl p) (inr q) = absurd (refusal-apart T r p.fault p.told p.cause q.known)
+found-one r T a b (inr p) (inl q) = absurd (refusal-apart T r q.fault q.told q.cause p.known)
+found-one r T a b (inr p) (inr q) = by-lines a b _ _ p.is q.is (ap status_of (one_outcome T r p.outcome q.outcome p.is_outcome q.is_outcome))
 
 survey-one : (T : Topology) (a b : Reply) → IsSurvey T a → IsSurvey T b → SameStatus a b
 survey-one T a b p q = by-lines a b _ _ p.is q.is refl
