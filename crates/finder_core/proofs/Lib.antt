@@ -1,8 +1,1 @@
-mod Plain
-mod Listed
-mod Named
-mod Joined
-mod Lifted
-mod Outcome
 mod Refused
-mod Walked
