@@ -1,1 +1,3 @@
 pub mod Lookup
+pub mod Placing
+pub mod Adding

@@ -1,8 +1,9 @@
 -- What a table holds.
 use Rattle.std.specs.Prelude.{◌≡◌, List, map}
-use Rattle.std.specs.List.{AllByRecursion}
+use Rattle.std.specs.List.{AllByRecursion, AllZip}
 use Rattle.circuit_spec.specs.Network.{Name}
-use Rattle.label_atoms.specs.Alike.{Climbing}
+use Rattle.label_atoms.specs.Alike.{AreKept, Climbing}
+use Rattle.kept_table.specs.declared.gathered.TypeTests.{TypeTests}
 use Rattle.kept_table.specs.declared.table.KeptRow.{KeptRow}
 use Rattle.kept_table.specs.Table.{KeptOfType}
 
@@ -14,3 +15,12 @@ row_of row = record { labeltype = row.labeltype; kept = row.kept }
 pub record AreRows (types : List Name) (rows : List KeptRow) : Type 0 where
   pub types_are : types ≡ map (λ (row : KeptRow). row.labeltype) rows
   pub rise : AllByRecursion (λ (row : KeptRow). Climbing 0 row.kept.labels) rows
+
+-- the row has the kept labels of what was gathered of a label type
+pub record IsRowOf (tests : TypeTests) (row : KeptRow) : Type 0 where
+  pub typed : row.labeltype ≡ tests.labeltype
+  pub are_kept : AreKept tests.sets tests.singles row.kept
+
+-- the rows are those of what was gathered, one by one
+abbrev pub AreRowsOf : List TypeTests → List KeptRow → Type 0
+AreRowsOf all rows = AllZip IsRowOf all rows

@@ -2,6 +2,8 @@
 #![tactic(auto)]
 
 mod building;
+mod gathered;
+mod gathering;
 mod table;
 
 pub use building::kept_of;
