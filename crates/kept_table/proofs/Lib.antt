@@ -1,3 +1,6 @@
 pub mod Lookup
 pub mod Placing
 pub mod Adding
+pub mod Known
+pub mod Growing
+pub mod Stating

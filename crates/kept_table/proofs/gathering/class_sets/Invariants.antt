@@ -1,0 +1,5 @@
+use Rattle.kept_table.specs.Gathering.{IsGathered}
+use Rattle.kept_table.proofs.gathering.class_sets.Given as goal
+
+abbrev pub invariant-loop-port : goal.invariant-loop-port
+invariant-loop-port l = IsGathered l.inventory l.request l.port 0 0 l.gathered

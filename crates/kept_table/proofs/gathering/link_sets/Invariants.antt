@@ -1,0 +1,7 @@
+use Rattle.std.proofs.Common.{length}
+use Rattle.circuit_spec.specs.Network.{ports}
+use Rattle.kept_table.specs.Gathering.{IsGathered}
+use Rattle.kept_table.proofs.gathering.link_sets.Given as goal
+
+abbrev pub invariant-loop-number : goal.invariant-loop-number
+invariant-loop-number l = IsGathered l.inventory l.request (length (ports l.inventory)) l.number 0 l.gathered
