@@ -4,3 +4,5 @@ pub mod Adding
 pub mod Known
 pub mod Growing
 pub mod Stating
+pub mod Telling
+pub mod TableOf

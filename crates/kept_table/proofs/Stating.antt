@@ -43,8 +43,14 @@ stated_unlabelled T id wish all class is none =
 
 pub stated_label : (T : Topology) (id : Name) (wish : Wish) (label : ℕ) (old new : List TypeTests) (class : Port) (t : Name) → wish ≡ Value label → IsClass T id class → label_type class.labels ≡ Some t → AddsSingle old t label new → AddsStated T id wish old new
 stated_label T id wish label old new class t value is typed a =
-    inr (t, label, a, (value, (class, is, typed)), (λ u m s.
-    (one_of_some (sym s.1.2 ∙ ap (λ (p : Port). label_type p.labels) (one_class T id s.1.0 class s.1.1 is) ∙ typed), one_value (sym s.0 ∙ value))))
+    inr (
+      t,
+      label,
+      a,
+      (value, (class, is, typed)),
+      (λ u m s.
+          (one_of_some (sym s.1.2 ∙ ap (λ (p : Port). label_type p.labels) (one_class T id s.1.0 class s.1.1 is) ∙ typed), one_value (sym s.0 ∙ value))),
+    )
   where
     one_value : {m n : ℕ} → Value m ≡ Value n → m ≡ n
     one_value e = cc

@@ -1,6 +1,6 @@
 -- What a table holds.
-use Rattle.std.specs.Prelude.{◌≡◌, List, map}
-use Rattle.std.specs.List.{AllByRecursion, AllZip}
+use Rattle.std.specs.Prelude.{◌≡◌, List, [], ◌∷◌, map}
+use Rattle.std.specs.List.{AllByRecursion}
 use Rattle.circuit_spec.specs.Network.{Name}
 use Rattle.label_atoms.specs.Alike.{AreKept, Climbing}
 use Rattle.kept_table.specs.declared.gathered.TypeTests.{TypeTests}
@@ -23,4 +23,7 @@ pub record IsRowOf (tests : TypeTests) (row : KeptRow) : Type 0 where
 
 -- the rows are those of what was gathered, one by one
 abbrev pub AreRowsOf : List TypeTests → List KeptRow → Type 0
-AreRowsOf all rows = AllZip IsRowOf all rows
+AreRowsOf [] [] = Unit {0}
+AreRowsOf [] (row ∷ rows) = ⊥
+AreRowsOf (tests ∷ all) [] = ⊥
+AreRowsOf (tests ∷ all) (row ∷ rows) = IsRowOf tests row × AreRowsOf all rows

@@ -34,9 +34,9 @@ fn rows_of(alloc: Global, all: &[TypeTests]) -> Result<Vec<KeptRow>, NoMemory>
     let mut rows = Vec::new(alloc);
     for tests in all {
         let row = row_of(alloc, tests)?;
-        if rows.push(row).is_err() {
+        let Ok(()) = rows.push(row) else {
             return Err(NoMemory);
-        }
+        };
     }
     Ok(rows)
 }

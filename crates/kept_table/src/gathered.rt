@@ -62,12 +62,7 @@ impl Gathered {
         }
     }
 
-    fn with_set(
-        self,
-        alloc: Global,
-        labeltype: &Id,
-        set: LabelSet,
-    ) -> Result<Gathered, NoMemory>
+    fn with_set(self, alloc: Global, labeltype: &Id, set: LabelSet) -> Result<Gathered, NoMemory>
         ensures { IfOk result (AddsSet self labeltype.now set) }
     {
         let Gathered {

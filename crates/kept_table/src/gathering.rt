@@ -29,11 +29,7 @@ pub fn gathered(
 }
 
 /// The sets of all classes.
-fn class_sets(
-    alloc: Global,
-    inventory: &Inventory,
-    request: &Request,
-) -> Result<Gathered, NoMemory>
+fn class_sets(alloc: Global, inventory: &Inventory, request: &Request) -> Result<Gathered, NoMemory>
     requires { ClassesFit inventory.now }
     ensures { IfOk result (IsGathered inventory.now request.now (length (ports inventory.now)) 0 0) }
 {
