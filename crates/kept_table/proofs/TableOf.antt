@@ -14,7 +14,7 @@ use Rattle.nml_inventory.proofs.Gets.{map_twice}
 use Rattle.kept_table.specs.declared.gathered.TypeTests.{TypeTests}
 use Rattle.kept_table.specs.declared.table.KeptRow.{KeptRow}
 use Rattle.kept_table.specs.Table.{AreOnce, IsKeptTable, IsTypeOfSome, KeptOfType, keeping_of, labels_in, row_of_type, types_in}
-use Rattle.kept_table.specs.Rows.{AreRows, AreRowsOf, IsRowOf, row_of}
+use Rattle.kept_table.specs.Rows.{AreRows, AreRowsOf, IsRowOf, IsTableOf, row_of}
 use Rattle.kept_table.specs.Gathering.{AreByType, is_type, sets_of, singles_of, types_of}
 use Rattle.kept_table.proofs.Lookup.{row_found, row_type}
 use Rattle.kept_table.proofs.Telling.{IsAll, class_set, kept_from_spec, kept_to, keeper_to, link_set, some_from}
@@ -120,8 +120,8 @@ type_named : (T : Topology) (r : Request) (all : List TypeTests) (u : Name) → 
 type_named T r all u g (inl (class, is)) = let s = class_set T r all u class g is in named all u s.0 s.1
 type_named T r all u g (inr (link, is)) = let s = link_set T r all u link g is in named all u s.0 s.1
 
-pub table_of : (T : Topology) (r : Request) (all : List TypeTests) (rows : List KeptRow) → IsAll T r all → AreOnce (types_of all) → AreRowsOf all rows → IsKeptTable T r (map row_of rows)
-table_of T r all rows g once h = record {
+table_told : (T : Topology) (r : Request) (all : List TypeTests) (rows : List KeptRow) → IsAll T r all → AreOnce (types_of all) → AreRowsOf all rows → IsKeptTable T r (map row_of rows)
+table_told T r all rows g once h = record {
   rise = λ u. (at u).rise;
   labels_are = λ u. (at u).labels_are;
   keepers = λ u. (at u).keepers;
@@ -133,3 +133,7 @@ table_of T r all rows g once h = record {
 
   at : (u : Name) → IsToldOf T r u (row_of_type (map row_of rows) u)
   at u = subst (IsToldOf T r u) (sym (row_found rows u)) (told T r all u (find (is_type u) all) (row_at rows u) g refl (found_both all rows u h))
+
+-- where all is gathered, its table is that of the kept labels
+pub table_of : (T : Topology) (r : Request) (all : List TypeTests) (table : List KeptOfType) → IsAll T r all → IsTableOf all table → IsKeptTable T r table
+table_of T r all table g t = subst (IsKeptTable T r) (sym t.table_is) (table_told T r all t.rows g t.once t.are_rows)

@@ -5,7 +5,8 @@ use Rattle.circuit_spec.specs.Network.{Name}
 use Rattle.label_atoms.specs.Alike.{AreKept, Climbing}
 use Rattle.kept_table.specs.declared.gathered.TypeTests.{TypeTests}
 use Rattle.kept_table.specs.declared.table.KeptRow.{KeptRow}
-use Rattle.kept_table.specs.Table.{KeptOfType}
+use Rattle.kept_table.specs.Gathering.{types_of}
+use Rattle.kept_table.specs.Table.{AreOnce, KeptOfType}
 
 -- the row as contracts see it
 abbrev pub row_of : KeptRow → KeptOfType
@@ -27,3 +28,10 @@ AreRowsOf [] [] = Unit {0}
 AreRowsOf [] (row ∷ rows) = ⊥
 AreRowsOf (tests ∷ all) [] = ⊥
 AreRowsOf (tests ∷ all) (row ∷ rows) = IsRowOf tests row × AreRowsOf all rows
+
+-- the table is that of what was gathered, each label type once
+pub record IsTableOf (all : List TypeTests) (table : List KeptOfType) : Type 0 where
+  pub rows : List KeptRow
+  pub are_rows : AreRowsOf all rows
+  pub table_is : table ≡ map row_of rows
+  pub once : AreOnce (types_of all)

@@ -1,9 +1,9 @@
-ghost use Rattle.std.specs.Prelude.{◌≡◌, IfOk, map};
+ghost use Rattle.std.specs.Prelude.{IfOk};
 ghost use Rattle.circuit_spec.specs.Faults.{IsKnown, IsSound};
-ghost use Rattle.kept_table.specs.Rows.{AreRowsOf, IsRowOf, row_of};
+ghost use Rattle.kept_table.specs.Rows.{AreRowsOf, IsRowOf, IsTableOf};
 ghost use Rattle.kept_table.specs.Table.{IsKeptTable};
 
-use crate::gathered::TypeTests;
+use crate::gathered::{Gathered, TypeTests};
 use crate::gathering::gathered;
 use crate::table::{KeptRow, KeptTable};
 use circuit_spec::Request;
@@ -23,6 +23,13 @@ pub fn kept_of(
     ensures { IfOk result (IsKeptTable inventory.now request.now) }
 {
     let gathered = gathered(alloc, inventory, request)?;
+    table_of(alloc, gathered)
+}
+
+/// The kept labels of all that is gathered.
+pub(crate) fn table_of(alloc: Global, gathered: Gathered) -> Result<KeptTable, NoMemory>
+    ensures { IfOk result (IsTableOf gathered) }
+{
     let rows = rows_of(alloc, gathered.tests())?;
     Ok(KeptTable::new(gathered.into_types(), rows))
 }

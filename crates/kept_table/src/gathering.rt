@@ -1,5 +1,6 @@
 ghost use Rattle.std.specs.Prelude.{◌≡◌, ◌<◌, IfOk, length};
 ghost use Rattle.std.specs.Option.{option_copied};
+ghost use Rattle.circuit_spec.specs.declared.hops.Request.{Request as RequestValue};
 ghost use Rattle.circuit_spec.specs.Faults.{ClassesFit, IsKnown, IsKnownEnd, IsSound};
 ghost use Rattle.circuit_spec.specs.Kept.{link_at};
 ghost use Rattle.circuit_spec.specs.Network.{elements_of, ports};
@@ -22,18 +23,17 @@ pub fn gathered(
     requires known { IsKnown inventory.now request.now }
     ensures { IfOk result (IsGathered inventory.now request.now (length (ports inventory.now)) (length (elements_of inventory.now)) 2) }
 {
-    let classes = class_sets(alloc, inventory, request)?;
-    let sets = link_sets(alloc, inventory, request, classes)?;
+    let classes = class_sets(alloc, inventory)?;
+    let sets = link_sets(alloc, inventory, classes)?;
     let more = with_stated(alloc, inventory, sets, &request.from, request.from_wish)?;
     with_stated(alloc, inventory, more, &request.to, request.to_wish)
 }
 
-/// The sets of all classes.
-fn class_sets(alloc: Global, inventory: &Inventory, request: &Request) -> Result<Gathered, NoMemory>
+/// The sets of all classes, whatever the request.
+fn class_sets(alloc: Global, inventory: &Inventory) -> Result<Gathered, NoMemory>
     requires { ClassesFit inventory.now }
-    ensures { IfOk result (IsGathered inventory.now request.now (length (ports inventory.now)) 0 0) }
+    ensures { IfOk result (λ all. (r : RequestValue) → IsGathered inventory.now r (length (ports inventory.now)) 0 0 all) }
 {
-    let _ = request;
     let mut gathered = Gathered::new(alloc);
     for port in 0..inventory.ports() {
         gathered = with_class(alloc, inventory, gathered, PortNo(port))?;
@@ -60,16 +60,10 @@ fn with_class(
 }
 
 /// With the own sets of all links.
-fn link_sets(
-    alloc: Global,
-    inventory: &Inventory,
-    request: &Request,
-    classes: Gathered,
-) -> Result<Gathered, NoMemory>
-    requires { IsGathered inventory.now request.now (length (ports inventory.now)) 0 0 classes }
-    ensures { IfOk result (IsGathered inventory.now request.now (length (ports inventory.now)) (length (elements_of inventory.now)) 0) }
+fn link_sets(alloc: Global, inventory: &Inventory, classes: Gathered) -> Result<Gathered, NoMemory>
+    requires { (r : RequestValue) → IsGathered inventory.now r (length (ports inventory.now)) 0 0 classes }
+    ensures { IfOk result (λ all. (r : RequestValue) → IsGathered inventory.now r (length (ports inventory.now)) (length (elements_of inventory.now)) 0 all) }
 {
-    let _ = request;
     let mut gathered = classes;
     for number in 0..inventory.elements() {
         gathered = with_link_at(alloc, inventory, gathered, number)?;

@@ -8,3 +8,6 @@ mod table;
 
 pub use building::kept_of;
 pub use table::KeptTable;
+
+#[cfg(test)]
+mod tests;
