@@ -37,7 +37,7 @@ rises R f xs up i j d le h = by_test (nat_lt i j) refl
         let same : i ≡ j = grind (arith, nat_tests) in
         subst (λ (k : ℕ). f (get_or xs i d) ≤ f (get_or xs k d)) same (omega arith)
 
-rank_cases : (p q : Ordering) → (q ≡ Less → p ≡ Less) → (q ≡ Equal → p ≡ Less) → ordering_index p ≤ ordering_index q
+pub rank_cases : (p q : Ordering) → (q ≡ Less → p ≡ Less) → (q ≡ Equal → p ≡ Less) → ordering_index p ≤ ordering_index q
 rank_cases p Less l e = subst (λ (o : Ordering). ordering_index o ≤ ordering_index Less) (sym (l refl)) (omega arith)
 rank_cases p Equal l e = subst (λ (o : Ordering). ordering_index o ≤ ordering_index Equal) (sym (e refl)) (omega arith)
 rank_cases Less Greater l e = omega arith
@@ -87,3 +87,7 @@ pub labels_below : (a b : PlaceName) → place_cmp a b ≡ Less → a.class ≡ 
 labels_below a b lt same =
     then_less (slice_cmp nat_cmp a.class b.class) (option_cmp nat_cmp a.label b.label) lt
     (ap (slice_cmp nat_cmp a.class) (sym same) ∙ tied_itself nat_list_cmp_total a.class)
+
+-- the lesser of two places has no greater class
+pub first_below : (a b : PlaceName) → place_cmp a b ≡ Less → ordering_index (slice_cmp nat_cmp a.class b.class) ≤ 1
+first_below a b lt = then_first (slice_cmp nat_cmp a.class b.class) (option_cmp nat_cmp a.label b.label) lt
