@@ -69,7 +69,7 @@ fn add_class(
 }
 
 /// Adds the places of a class at those of the labels that are in one of the ranges.
-fn add_ranges(
+pub fn add_ranges(
     places: &mut Vec<PlaceName>,
     class: &Id,
     labels: &[u32],
@@ -95,7 +95,7 @@ fn add_labels(places: &mut Vec<PlaceName>, class: &Id, labels: &[u32]) -> Result
 }
 
 /// Adds the place of a class at this label, or at none.
-fn add_place(places: &mut Vec<PlaceName>, class: &Id, label: Tag) -> Result<(), NoMemory>
+pub fn add_place(places: &mut Vec<PlaceName>, class: &Id, label: Tag) -> Result<(), NoMemory>
     ensures { OnOk result (places.new.items ≡ places.old.items ++ (record { class = class.now; label = label }) ∷ []) }
 {
     let class = class.share()?;

@@ -10,3 +10,6 @@ mod spanning;
 pub use opening::open_places;
 pub use places::Places;
 pub use span::Span;
+
+#[cfg(test)]
+mod tests;

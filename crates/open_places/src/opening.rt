@@ -29,7 +29,7 @@ pub fn open_places(
 }
 
 /// The places in their order, each once.
-fn in_order(mut places: Vec<PlaceName>) -> Result<Vec<PlaceName>, NoMemory>
+pub fn in_order(mut places: Vec<PlaceName>) -> Result<Vec<PlaceName>, NoMemory>
     ensures rise { IfOk result (λ sorted. IsRising sorted.items) }
     ensures same { IfOk result (λ sorted. (place : Place) → Contains sorted.items place ↔ Contains places.items place) }
 {

@@ -29,7 +29,7 @@ pub fn spans_of(
 }
 
 /// The span of a class.
-fn span_of(places: &[PlaceName], class: &Id) -> Span
+pub fn span_of(places: &[PlaceName], class: &Id) -> Span
     requires { IsRising places.now }
     ensures { IsClassSpan places.now class.now result }
 {
