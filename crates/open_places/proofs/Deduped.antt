@@ -1,7 +1,7 @@
 -- Sorted places without those that stand twice.
-use Rattle.std.proofs.Common.{◌≡◌, ◌∙◌, refl, sym, ap, subst, List, [], Bool, true}
+use Rattle.std.proofs.Common.{◌≡◌, ◌∙◌, sym, subst, List, [], Bool}
 use Rattle.std.specs.Prelude.{◌↔◌}
-use Rattle.std.specs.List.{Contains, dedup}
+use Rattle.std.specs.List.{Contains}
 use Rattle.std.specs.List.Retain.{DiffersFromLast, IsFiltered}
 use Rattle.std.specs.List.Sorted.{IsSorted, IsPermutation}
 use Rattle.std.specs.Ordering.{eq_by_cmp}

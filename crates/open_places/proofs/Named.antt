@@ -1,7 +1,7 @@
 -- The places that a class has, of those that are listed.
-use Rattle.std.proofs.Common.{◌≡◌, ◌∙◌, refl, sym, ap, subst, inl, inr, ◌⊎◌, ℕ, zero, suc, ◌+◌, ◌<◌, List, [], ◌∷◌, ◌++◌, length, get_or, map, filter, Bool, true, false, cond, Option, None, Some, arith}
-use Rattle.std.specs.Prelude.{◌↔◌, slice_get, option_map, IsTrue, ◌||◌, nat_lt}
-use Rattle.std.specs.List.{Contains, flat_map, list_any}
+use Rattle.std.proofs.Common.{◌≡◌, ◌∙◌, refl, sym, ap, subst, inl, inr, ◌⊎◌, ℕ, zero, suc, ◌+◌, ◌<◌, List, [], ◌∷◌, ◌++◌, filter, Bool, true, false, cond, None, Some, arith}
+use Rattle.std.specs.Prelude.{◌↔◌, slice_get, option_map, ◌||◌, nat_lt}
+use Rattle.std.specs.List.{Contains}
 use Rattle.std.proofs.lemmas.List.Elements.{Contains-append_left, Contains-append_right, Contains-append_cases}
 use Rattle.std.proofs.lemmas.Bool.Decides.{nat_tests}
 use Rattle.label_sets.specs.Ranges.{has, is_within}
@@ -10,7 +10,7 @@ use Rattle.nml_elements.specs.Labels.{is_among}
 use Rattle.nml_elements.specs.declared.elements.Labels.{Labels}
 use Rattle.nml_elements.specs.declared.elements.Labels.TheVariants.{Unlabelled, Of}
 use Rattle.circuit_spec.specs.declared.hops.PlaceName.{PlaceName}
-use Rattle.circuit_spec.specs.Network.{Name, Tag, Topology, Port, Linked, IsClass, IsInClassSet, IsOpen, label_type, ports}
+use Rattle.circuit_spec.specs.Network.{Name, Tag, Topology, Port, Linked, IsClass, IsOpen, label_type, ports}
 use Rattle.circuit_spec.specs.Faults.{duplicate_ids, duplicate_topologies, merge_faults, wrong_kinds}
 use Rattle.circuit_spec.proofs.Lists.{both_empty}
 use Rattle.circuit_spec.proofs.ClassLemmas.{First-unique}

@@ -1,5 +1,5 @@
 -- All state places of a network in their order, with the spans of its ports.
-use Rattle.std.proofs.Common.{◌≡◌, ◌∙◌, refl, sym, ap, subst, ℕ, suc, ◌<◌, ◌≤◌, inl, inr, List, [], ◌∷◌, length, Some}
+use Rattle.std.proofs.Common.{◌≡◌, ◌∙◌, sym, ap, subst, ℕ, suc, ◌<◌, ◌≤◌, inl, inr, List, [], ◌∷◌, length, Some}
 use Rattle.std.specs.Prelude.{◌↔◌, slice_get}
 use Rattle.std.specs.List.{Contains}
 use Rattle.std.proofs.lemmas.Option.{slice_get_within}
@@ -10,7 +10,7 @@ use Rattle.kept_table.specs.Table.{KeptOfType}
 use Rattle.open_places.specs.declared.span.Span.{Span}
 use Rattle.open_places.specs.Places.{PlacesValue, ArePlaces, IsRising, IsStatePlace}
 use Rattle.open_places.specs.Spans.{AreSpans, AreStates, IsClassSpan}
-use Rattle.open_places.specs.Gathering.{AreGathered, IsPlaceOf}
+use Rattle.open_places.specs.Gathering.{AreGathered}
 
 one_of_some : {A : Type 0} {x y : A} → Some x ≡ Some y → x ≡ y
 one_of_some e = cc

@@ -1,4 +1,4 @@
-use Rattle.std.proofs.Common.{◌≡◌, ◌∙◌, ap, ℕ, List, length, take, drop, ltb, leb, rules, arith, ◌-◌, sym, subst}
+use Rattle.std.proofs.Common.{ℕ, List, length, take, drop, ltb, leb, rules, ◌-◌, sym, subst}
 use Rattle.std.specs.List.Sorted.{IsNonDecreasingBy}
 use Rattle.std.proofs.lemmas.List.Sorted.{IsPartitionPoint-from_clause, IsPartitionedBy-ltb, IsPartitionedBy-leb}
 use Rattle.open_places.proofs.Cutting.{climbs, climbs_dropped, cut_out, rest_is}

@@ -1,4 +1,4 @@
-use Rattle.std.proofs.Common.{◌≡◌, ◌∙◌, ap, ℕ, List, rules}
+use Rattle.std.proofs.Common.{◌∙◌, ap, List, rules}
 use Rattle.std.specs.Prelude.{slice_get, slice_range}
 use Rattle.std.proofs.lemmas.Fn.{always_returns_same}
 use Rattle.circuit_spec.specs.declared.hops.PlaceName.{PlaceName}
