@@ -50,6 +50,7 @@ impl Stage {
     {
         match self {
             Stage::Rules(before) => before.last = rule.number,
+            // No rule comes before the line of a domain.
             _ => *self = Stage::Rules(Before::nothing()),
         }
     }
