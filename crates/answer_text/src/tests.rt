@@ -136,13 +136,11 @@ fn first_misfits(rt: HostRuntime) -> Result<(), Fail> {
 #[test]
 fn cut_documents(rt: HostRuntime) -> Result<(), Fail> {
     let mut front = String::new(rt.alloc());
-    let mut number = 1;
-    for line in TUNNEL.lines() {
+    for (number, line) in (1..=15_u64).zip(TUNNEL.lines()) {
         assert_eq!(rt; misfit(rt.alloc(), front.as_str())?, number);
         front.push_str(line)?;
         assert_eq!(rt; misfit(rt.alloc(), front.as_str())?, number);
         front.push('\n')?;
-        number += 1;
     }
     assert_eq!(rt; misfit(rt.alloc(), front.as_str())?, 0);
     Ok(())
