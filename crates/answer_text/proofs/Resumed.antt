@@ -1,5 +1,5 @@
 -- A document that is read line by line, from its front.
-use Rattle.std.proofs.Common.{◌≡◌, ◌∙◌, refl, sym, ap, subst, ℕ, suc, ◌+◌, List, [], ◌∷◌, Option, Some, None, Result, Ok, Err, add-one}
+use Rattle.std.proofs.Common.{◌≡◌, ◌∙◌, refl, sym, ap, subst, ℕ, suc, ◌+◌, List, [], ◌∷◌, Some, Result, Ok, Err, add-one}
 use Rattle.domain_config.specs.Lines.{pieces, goes_on, closing, adding, text_of}
 use Rattle.domain_config.proofs.LineLaws.{read_text, text_read, refused_first}
 use Rattle.domain_config.proofs.Onward.{line_read, taken_on, misfit_on, closed_on}
