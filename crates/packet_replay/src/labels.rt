@@ -2,6 +2,7 @@ ghost use Rattle.std.specs.Prelude.{◌≡◌, ◌↔◌, ◌<◌, IsTrue, lengt
 ghost use Rattle.circuit_spec.specs.Faults.{IsSound};
 ghost use Rattle.circuit_spec.specs.Network.{IsOpen, Name, Port, ports};
 ghost use Rattle.circuit_spec.specs.Steps.{IsCarried};
+ghost use Rattle.nml_inventory.specs.Relations.{AreClassLabels};
 ghost use Rattle.packet_replay.specs.Carried.{admits};
 ghost use Rattle.packet_replay.specs.Conditions.{FitsLabels, KeepsLabel, Way};
 ghost use Rattle.packet_replay.specs.Numbered.{AreNumbers, IsEnd};
@@ -34,13 +35,22 @@ fn admits(labels: &Labels, label: Tag) -> bool
     }
 }
 
+/// The labels that all ports of the end's class have.
+fn class_labels(inventory: &Inventory, end: End) -> &Labels
+    requires sound { IsSound inventory.now }
+    requires port { end.port.0 < length (ports inventory.now) }
+    ensures { (id : Name) (class : Port) → IsEnd inventory.now id class end → AreClassLabels inventory.now class result.now }
+{
+    inventory.labels_of(end.port)
+}
+
 /// Whether the place of the end's class and the label is open.
 fn is_open(inventory: &Inventory, end: End, label: Tag) -> bool
     requires sound { IsSound inventory.now }
     requires port { end.port.0 < length (ports inventory.now) }
     ensures { (id : Name) (class : Port) → IsEnd inventory.now id class end → IsTrue result ↔ IsOpen inventory.now class label }
 {
-    admits(inventory.labels_of(end.port), label)
+    admits(class_labels(inventory, end), label)
 }
 
 /// Whether a link with these labels of its own takes the label.

@@ -21,6 +21,8 @@ mod laws;
 mod numbers;
 mod relating;
 mod replay;
+#[cfg(test)]
+mod tests;
 
 pub use faults::StepFault;
 pub use laws::{hops_that_fit, next_unit_is_one, refusal_is_one};
