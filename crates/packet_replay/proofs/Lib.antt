@@ -1,0 +1,7 @@
+mod Named
+mod Listed
+mod Ported
+mod Opened
+mod Framed
+mod Stepping
+mod Refusing
