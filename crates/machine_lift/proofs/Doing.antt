@@ -3,6 +3,7 @@ use Rattle.std.proofs.Common.{◌≡◌, ℕ, List, [], ◌∷◌, Option, None,
 use Rattle.std.specs.Prelude.{slice_get}
 use Rattle.ml_base.specs.declared.numbers.FrameNo.{FrameNo}
 use Rattle.ml_base.specs.declared.numbers.StateNo.{StateNo}
+use Rattle.ml_base.specs.declared.numbers.Wish.{Wish}
 use Rattle.adapt_machine.specs.declared.MachineKind.{MachineKind}
 use Rattle.adapt_machine.specs.declared.MachineKind.TheVariants.{Flat, Push, Pop}
 use Rattle.adapt_machine.specs.declared.MachineStep.{MachineStep}
@@ -15,7 +16,7 @@ use Rattle.circuit_spec.specs.declared.hops.PlaceName.{PlaceName}
 use Rattle.circuit_spec.specs.declared.hops.Request.{Request}
 use Rattle.circuit_spec.specs.Kept.{HasKept, IsOverKept}
 use Rattle.circuit_spec.specs.Network.{Name, Tag, Topology, Port, IsClass, IsOpen, Linked, ports}
-use Rattle.circuit_spec.specs.Segments.{unit_in, IsStart}
+use Rattle.circuit_spec.specs.Segments.{unit_in, IsStart, IsTarget}
 use Rattle.circuit_spec.specs.Steps.{Step, cost_of}
 use Rattle.circuit_spec.proofs.ClassLemmas.{First-unique, class_of_itself}
 use Rattle.circuit_spec.proofs.Effects.{Keeps}
@@ -23,7 +24,7 @@ use Rattle.circuit_spec.proofs.HopSegments.{kept_system}
 use Rattle.circuit_spec.proofs.Matching.{not_kept, unlike}
 use Rattle.kept_table.specs.Table.{IsKeptTable, KeptOfType}
 use Rattle.open_places.specs.Places.{IsListed, IsStatePlace}
-use Rattle.machine_build.specs.Built.{BuiltValue, IsBuilt, IsHopAt, IsState, IsDoneBy, MovesBy}
+use Rattle.machine_build.specs.Built.{BuiltValue, IsAllowedState, IsBuilt, IsHopAt, IsState, MovesBy}
 use Rattle.machine_lift.proofs.OneHop.{kept_kind, one_put, one_taken, put_kind, taken_kind}
 use Rattle.machine_lift.proofs.Simulations.{Relating, Does, Simulates}
 use Rattle.machine_lift.proofs.States.{one_number, same_at}
@@ -69,14 +70,17 @@ module _ (T : Topology) (r : Request) (table : List KeptOfType) (kept : IsKeptTa
   entered_place : (x y : PlaceName) (s u : List Frame) (h : Hop) → IsOverKept T r h → Step T (unit_in x s) h (unit_in y u) → IsStatePlace T table y
   entered_place x y s u h over step = state_of y h.to step.to h.to_label step.enters.is_class step.enters.is_open step.after.same_class step.after.same_label (over.to step.to step.enters.is_class)
 
-  start_place : (place : PlaceName) → IsStart T r place → IsStatePlace T table place
+  pub start_place : (place : PlaceName) → IsStart T r place → IsStatePlace T table place
   start_place place is = state_of place r.from is.class place.label is.allowed.place.is_class is.allowed.place.is_open is.named refl is.kept
+
+  pub target_place : (place : PlaceName) → IsTarget T r place → IsStatePlace T table place
+  target_place place is = state_of place r.to is.class place.label is.allowed.place.is_class is.allowed.place.is_open is.named refl is.kept
 
   module _ (b : BuiltValue) (built : IsBuilt T table r b) where
     state_place : (x : StateNo) (place : PlaceName) → IsState b x place → IsStatePlace T table place
     state_place x place at = (built.places_are place).0 (contains_at b.places x.0 place at)
 
-    place_state : (place : PlaceName) → IsStatePlace T table place → (x : StateNo) × IsState b x place
+    pub place_state : (place : PlaceName) → IsStatePlace T table place → (x : StateNo) × IsState b x place
     place_state place is = let at = at_contains b.places place ((built.places_are place).1 is) in (record { 0 = at.0 }, at.2)
 
     abbrev as_state : ℕ → StateNo
@@ -84,6 +88,10 @@ module _ (T : Topology) (r : Request) (table : List KeptOfType) (kept : IsKeptTa
 
     one_state : (place : PlaceName) (x y : StateNo) → IsState b x place → IsState b y place → x ≡ y
     one_state place x y atx aty = let same : x.0 ≡ y.0 = one_number b.places x.0 y.0 place built.rise atx aty in ap (λ n. as_state n) same
+
+    -- the label of an allowed state is kept
+    pub kept_end : (port : Name) (wish : Wish) (x : StateNo) (a : IsAllowedState T b.places port wish x) → HasKept T r a.class a.place.label
+    kept_end port wish x a = kept_at a.place port a.class a.class a.place.label (state_place x a.place a.is_state) a.allowed.place.is_class a.named refl a.allowed.place.is_class
 
     -- The network does what the machine does
 
@@ -147,17 +155,7 @@ module _ (T : Topology) (r : Request) (table : List KeptOfType) (kept : IsKeptTa
           record { step = g.hop; to = g.enters; same_step = g.is_hop; same_to = g.enters_at; cost = g.cost; does = (over_kept X g.enters (frame ∷ []) [] g.hop (state_place x X at) g.entered step, step) };
       starts = λ x is.
           let a = (built.starts_are x).0 is in
-          let is_place = state_place x a.place a.is_state in
-          (
-            a.place,
-            a.is_state,
-            record {
-              class = a.class;
-              allowed = a.allowed;
-              named = a.named;
-              kept = kept_at a.place r.from a.class a.class a.place.label is_place a.allowed.place.is_class a.named refl a.allowed.place.is_class;
-            },
-          );
+          (a.place, a.is_state, record { class = a.class; allowed = a.allowed; named = a.named; kept = kept_end r.from r.from_wish x a });
       one = λ x X Y atx aty. same_at b.places x.0 X Y atx aty;
     }
 

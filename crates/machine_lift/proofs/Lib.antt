@@ -3,3 +3,4 @@ pub mod States
 pub mod OneHop
 pub mod Doing
 pub mod Lifted
+pub mod Weights

@@ -1,8 +1,10 @@
 -- Segments of a machine as segments of its network.
 --   IsRootAt     a root of the machine is at a root of the network
 --   AreHopsAt    the hops of steps
+--   AreStatesOf  the states of places
 --   AreLifted    the segments of the one are those of the other
-use Rattle.std.specs.Prelude.{◌≡◌, ℕ, List, [], ◌∷◌}
+use Rattle.std.specs.Prelude.{◌≡◌, ℕ, ◌<◌, List, [], ◌∷◌, length}
+use Rattle.std.specs.List.{AllByRecursion, Contains}
 use Rattle.ml_base.specs.declared.numbers.StateNo.{StateNo}
 use Rattle.ml_base.specs.declared.numbers.Root.{Root}
 use Rattle.ml_base.specs.declared.numbers.Root.TheVariants as root
@@ -13,7 +15,7 @@ use Rattle.circuit_spec.specs.declared.hops.PlaceName.{PlaceName}
 use Rattle.circuit_spec.specs.declared.hops.Request.{Request}
 use Rattle.circuit_spec.specs.Network.{Topology}
 use Rattle.circuit_spec.specs.Steps.{weight_of}
-use Rattle.circuit_spec.specs.Segments.{RootPlace, request, entry, IsSegmentOf}
+use Rattle.circuit_spec.specs.Segments.{RootPlace, request, entry, IsSegmentOf, IsStart, IsTarget}
 use Rattle.machine_build.specs.Built.{BuiltValue, IsHopAt, IsState}
 
 -- the root of the network at a root of the machine: the request at the request, a place at its state
@@ -29,6 +31,11 @@ AreHopsAt T b [] hops = hops ≡ []
 AreHopsAt T b (k ∷ ks) [] = ⊥
 AreHopsAt T b (k ∷ ks) (h ∷ hops) = IsHopAt T b k h × AreHopsAt T b ks hops
 
+-- the states are exactly those of the places of which P holds
+pub record AreStatesOf (b : BuiltValue) (P : PlaceName → Type 0) (states : List StateNo) : Type 0 where
+  pub only : (state : StateNo) → Contains states state → (place : PlaceName) × IsState b state place × P place
+  pub all : (place : PlaceName) → P place → (state : StateNo) × IsState b state place × Contains states state
+
 -- the segments of the machine are those of the network, under roots and between states and places that belong together
 pub record AreLifted (T : Topology) (r : Request) (b : BuiltValue) : Type 0 where
   -- the hops of a segment are a segment, of the same weight
@@ -39,3 +46,9 @@ pub record AreLifted (T : Topology) (r : Request) (b : BuiltValue) : Type 0 wher
   pub steps : (at : RootPlace) (hops : List Hop) (place : PlaceName) → IsSegmentOf T r at hops place
       → (root : Root) (state : StateNo) → IsRootAt b root at → IsState b state place
       → (ks : List ℕ) × IsSegmentUnder b.machine.steps b.starts root ks state × AreHopsAt T b ks hops
+  -- each step of a segment is one of the machine, and has a hop
+  pub within : (root : Root) (ks : List ℕ) (state : StateNo) → IsSegmentUnder b.machine.steps b.starts root ks state → AllByRecursion (λ k. k < length b.machine.steps) ks
+  pub made : (root : Root) (ks : List ℕ) (state : StateNo) → IsSegmentUnder b.machine.steps b.starts root ks state → (hops : List Hop) × AreHopsAt T b ks hops
+  -- the segments of the request begin at the starts, and its walks end at the targets
+  pub starts : AreStatesOf b (IsStart T r) b.starts
+  pub targets : AreStatesOf b (IsTarget T r) b.targets
