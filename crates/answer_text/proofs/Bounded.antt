@@ -141,8 +141,8 @@ shown T r listed (outcome.Long c n) hops small walk more agrees bounds reached =
   λ others is low. over (weight_of T others) c n more (from_known (weight_of T others) c n small.0 (bounds (Known c n) agrees others is)) low,
 )
 
-pub bounds : (T : Topology) (a : Answer) (keeping : Keeping) → IsSound T → GivesKeepers T a.request keeping → IsWellFormed a → Certificate T a → BoundsWalks T a.request a.outcome a.hops
-bounds T a keeping sound gives formed certificate =
+pub bounded : (T : Topology) (a : Answer) (keeping : Keeping) → IsSound T → GivesKeepers T a.request keeping → IsWellFormed a → Certificate T a → BoundsWalks T a.request a.outcome a.hops
+bounded T a keeping sound gives formed certificate =
     shown T a.request a.potentials a.outcome a.hops formed.outcome certificate.arrives certificate.weighed certificate.agrees
     (λ w is others walk. least T a certificate w is (cap (weight_of T others)) (reaches T a certificate keeping sound gives others walk))
     (λ others walk. let at = reaches T a certificate keeping sound gives others walk in (at.0, at.1, (at.2.0, at.2.1)))

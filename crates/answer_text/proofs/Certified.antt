@@ -1,7 +1,7 @@
 -- The answer of a search keeps the rules of the certificate.
 use Rattle.std.specs.Prelude.{Contains}
 use Rattle.std.specs.List.{All}
-use Rattle.std.proofs.Common.{◌≡◌, ◌+◌, ℕ, List, [], ◌∷◌, Some, refl, sym, ◌∙◌, ap, subst, get_or, length, arith}
+use Rattle.std.proofs.Common.{◌≡◌, ◌+◌, ℕ, List, [], ◌∷◌, Option, Some, refl, sym, ◌∙◌, ap, subst, get_or, length, arith}
 use Rattle.std.proofs.lemmas.Grind.{common_steps}
 use Rattle.std.proofs.lemmas.List.Elements.{All-contains, Contains-get_or}
 use Rattle.ml_base.specs.declared.weight.Weight.{Weight}
@@ -19,7 +19,8 @@ use Rattle.circuit_spec.specs.declared.hops.Outcome.TheVariants as outcome
 use Rattle.circuit_spec.specs.declared.hops.TheConstants.{HOP_LIMIT}
 use Rattle.circuit_spec.specs.declared.hops.Unit.{Unit as DataUnit}
 use Rattle.circuit_spec.specs.Network.{Name, Tag, Topology, Port, IsClass, IsOpen, IsPlace}
-use Rattle.circuit_spec.specs.Steps.{IsOutcome, IsLeastCapped, IsWished, Run, Step, Walk, cost_of, weight_of}
+use Rattle.circuit_spec.specs.Steps.{IsOutcome, IsLeastCapped, IsWished, Ends, Joins, Run, Step, Walk, cost_of, unit_at, weight_of}
+use Rattle.circuit_spec.specs.Flags.{AreFlags, flags_after}
 use Rattle.circuit_spec.specs.Kept.{HasKept, IsOverKept}
 use Rattle.circuit_spec.specs.Keeping.{Keeping, GivesKeepers}
 use Rattle.circuit_spec.specs.Faults.{IsSound, IsKnown}
@@ -35,7 +36,7 @@ use Rattle.answer_text.specs.declared.answer.PotLine.{PotLine}
 use Rattle.answer_text.specs.declared.answer.RootName.{RootName}
 use Rattle.answer_text.specs.declared.answer.RootName.TheVariants as root
 use Rattle.answer_text.specs.Potentials.{root_place, IsListed, IsListedWithin, IsPotential, ArePotentials}
-use Rattle.answer_text.specs.Certificate.{Certificate, first_label, first_place, AreCarried, Arrives, IsWeighed, IsKeptPlace, IsKeptRoot, IsPlaced, Keeps, Puts, Takes, hop_weight, StartsAreListed, RootIsListed, IsListedRoot, IsExtended, IsOpened, IsNested, IsLeastListed, Agrees}
+use Rattle.answer_text.specs.Certificate.{Certificate, first_label, first_place, AreCarried, AreFlagged, Arrives, IsWeighed, IsKeptPlace, IsKeptRoot, IsPlaced, Keeps, Puts, Takes, hop_weight, StartsAreListed, RootIsListed, IsListedRoot, IsExtended, IsOpened, IsNested, IsLeastListed, Agrees}
 use Rattle.answer_text.specs.Exact.{AreHopsOf, IsExactAnswer}
 
 -- what holds of each item that the list contains holds of all
@@ -45,20 +46,18 @@ all_of P xs each k d within = each (get_or xs k d) (Contains-get_or xs k d withi
 -- ---- the hops
 
 -- the hops of a walk begin with the label of its start
-begins_with : (T : Topology) (wish : Wish) (class : Port) (label : Tag) (hops : List Hop) (end : DataUnit) → IsWished wish label
-    → Run T (unit_in (record { class = class.id; label = label }) []) hops end
-    → (v : DataUnit) × Run T (unit_in (record { class = class.id; label = first_label wish hops }) []) hops v
-begins_with T (Value n) class label hops end wished run =
-    let P : Tag → Type 0 = λ l. Run T (unit_in (record { class = class.id; label = l }) []) hops end in
-    (end, subst P wished run)
-begins_with T Any class label [] end wished run = (_, refl)
-begins_with T Any class label (h ∷ hops) end wished run =
-    let P : Tag → Type 0 = λ l. Run T (unit_in (record { class = class.id; label = l }) []) (h ∷ hops) end in
-    (end, subst P run.1.before.same_label run)
+begins_with : (T : Topology) (wish : Wish) (class : Port) (label : Tag) (h : Hop) (hops : List Hop) (end : DataUnit) → IsWished wish label
+    → Run T (unit_in (record { class = class.id; label = label }) []) (h ∷ hops) end → label ≡ first_label wish (h ∷ hops)
+begins_with T (Value n) class label h hops end wished run = wished
+begins_with T Any class label h hops end wished run = run.1.before.same_label
 
 walk_carried : (T : Topology) (r : Request) (hops : List Hop) → Walk T r hops → AreCarried T r hops
-walk_carried T r hops (ends, run) =
-    (ends.from, ends.from_allowed.place.is_class, begins_with T r.from_wish ends.from ends.from_label hops _ ends.from_allowed.wished run)
+walk_carried T r [] (ends, run) = (ends.from, ends.from_allowed.place.is_class, (_, refl))
+walk_carried T r (h ∷ hops) (ends, run) =
+    let end = unit_at ends.to ends.to_label [] in
+    let P : Tag → Type 0 = λ label. Run T (unit_at ends.from label []) (h ∷ hops) end in
+    let same = begins_with T r.from_wish ends.from ends.from_label h hops end ends.from_allowed.wished run in
+    (ends.from, ends.from_allowed.place.is_class, (end, subst P same run))
 
 none_carried : (T : Topology) (r : Request) (hops : List Hop) → IsKnown T r → hops ≡ [] → AreCarried T r hops
 none_carried T r hops known none = subst (AreCarried T r) (sym none) (known.0.0, known.0.1, (_, refl))
@@ -80,6 +79,16 @@ weighed T r (outcome.Found c n) hops out is = (is.1, out.2)
 weighed T r outcome.NoWalk hops out is = tt
 weighed T r outcome.Past hops out is = tt
 weighed T r (outcome.Long c n) hops out is = out.1
+
+-- Flags from where a walk begins are those of its hops.
+pub walk_flagged : (T : Topology) (r : Request) (hops : List Hop) (flags : List (Option ℕ)) (ends : Ends T r) → Joins ends hops [] → AreFlags T (record { class = ends.from.id; label = ends.from_label }) hops flags → AreFlagged T r hops flags
+walk_flagged T r [] flags ends run are =
+    let start : PlaceName = record { class = ends.from.id; label = ends.from_label } in
+    (ends.from, ends.from_allowed.place.is_class, ([], refl, are.2 ∙ ap (flags_after (start ∷ [])) are.1))
+walk_flagged T r (h ∷ hops) flags ends run are =
+    let P : Tag → Type 0 = λ label. AreFlags T (record { class = ends.from.id; label = label }) (h ∷ hops) flags in
+    let same = begins_with T r.from_wish ends.from ends.from_label h hops (unit_at ends.to ends.to_label []) ends.from_allowed.wished run in
+    (ends.from, ends.from_allowed.place.is_class, subst P same are)
 
 -- ---- places
 
