@@ -1,6 +1,5 @@
 -- A certificate bounds all walks.
-use Rattle.std.specs.Prelude.{Contains}
-use Rattle.std.proofs.Common.{◌≡◌, ◌⊎◌, ◌+◌, ◌<◌, ◌≤◌, ◌^◌, ℕ, inl, inr, List, [], ◌∷◌, refl, sym, ◌∙◌, ap, subst, min, arith}
+use Rattle.std.proofs.Common.{◌+◌, ◌<◌, ◌≤◌, ◌^◌, ℕ, inl, inr, List, [], ◌∷◌, sym, subst, arith}
 use Rattle.std.proofs.lemmas.Grind.{common_steps}
 use Rattle.std.proofs.lemmas.List.Elements.{All-contains}
 use Rattle.ml_base.specs.declared.weight.Weight.{Weight}
@@ -19,7 +18,7 @@ use Rattle.circuit_spec.specs.Steps.{Circuit, Step, Walk, cost_of, unit_at, weig
 use Rattle.circuit_spec.specs.Kept.{IsOverKept}
 use Rattle.circuit_spec.specs.Keeping.{Keeping, GivesKeepers, kept_hops}
 use Rattle.circuit_spec.specs.Faults.{IsSound}
-use Rattle.circuit_spec.specs.Segments.{RootPlace, request, entry, unit_in, IsTarget, IsSegmentOf}
+use Rattle.circuit_spec.specs.Segments.{RootPlace, request, entry, unit_in, IsTarget}
 use Rattle.circuit_spec.specs.HopRules.{KeepsRules}
 use Rattle.circuit_spec.proofs.HopRuns.{place_of, run_over}
 use Rattle.circuit_spec.proofs.Generation.{holds_of_segments}

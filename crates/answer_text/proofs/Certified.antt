@@ -1,14 +1,14 @@
 -- The answer of a search keeps the rules of the certificate.
 use Rattle.std.specs.Prelude.{Contains}
 use Rattle.std.specs.List.{All}
-use Rattle.std.proofs.Common.{◌≡◌, ◌+◌, ℕ, List, [], ◌∷◌, Option, Some, refl, sym, ◌∙◌, ap, subst, get_or, length, arith}
+use Rattle.std.proofs.Common.{◌≡◌, ◌+◌, ℕ, List, [], ◌∷◌, Option, refl, sym, ◌∙◌, ap, subst, get_or, arith}
 use Rattle.std.proofs.lemmas.Grind.{common_steps}
 use Rattle.std.proofs.lemmas.List.Elements.{All-contains, Contains-get_or}
 use Rattle.ml_base.specs.declared.weight.Weight.{Weight}
 use Rattle.ml_base.specs.declared.weight.Weight.TheVariants.{Known, Past}
 use Rattle.ml_base.specs.declared.numbers.Wish.{Wish}
 use Rattle.ml_base.specs.declared.numbers.Wish.TheVariants.{Any, Value}
-use Rattle.ml_base.specs.Weight.{FullWeight, IsCappedAtMost, cap, capped_total}
+use Rattle.ml_base.specs.Weight.{IsCappedAtMost, cap, capped_total}
 use Rattle.ml_base.proofs.Laws.{full, cap-total, at_most-antisym}
 use Rattle.circuit_spec.specs.declared.hops.Frame.{Frame}
 use Rattle.circuit_spec.specs.declared.hops.Hop.{Hop}
@@ -16,15 +16,14 @@ use Rattle.circuit_spec.specs.declared.hops.PlaceName.{PlaceName}
 use Rattle.circuit_spec.specs.declared.hops.Request.{Request}
 use Rattle.circuit_spec.specs.declared.hops.Outcome.{Outcome}
 use Rattle.circuit_spec.specs.declared.hops.Outcome.TheVariants as outcome
-use Rattle.circuit_spec.specs.declared.hops.TheConstants.{HOP_LIMIT}
 use Rattle.circuit_spec.specs.declared.hops.Unit.{Unit as DataUnit}
-use Rattle.circuit_spec.specs.Network.{Name, Tag, Topology, Port, IsClass, IsOpen, IsPlace}
+use Rattle.circuit_spec.specs.Network.{Tag, Topology, Port, IsClass, IsOpen}
 use Rattle.circuit_spec.specs.Steps.{IsOutcome, IsLeastCapped, IsWished, Ends, Joins, Run, Step, Walk, cost_of, unit_at, weight_of}
 use Rattle.circuit_spec.specs.Flags.{AreFlags, flags_after}
 use Rattle.circuit_spec.specs.Kept.{HasKept, IsOverKept}
 use Rattle.circuit_spec.specs.Keeping.{Keeping, GivesKeepers}
 use Rattle.circuit_spec.specs.Faults.{IsSound, IsKnown}
-use Rattle.circuit_spec.specs.Segments.{RootPlace, request, entry, unit_in, IsStart, IsTarget, IsSegmentOf, IsReached, IsLeastOf, IsWalkOverKept, Generated, start, flat, enter, nest}
+use Rattle.circuit_spec.specs.Segments.{RootPlace, request, entry, unit_in, IsStart, IsTarget, IsLeastOf, IsWalkOverKept, Generated, start, flat, enter, nest}
 use Rattle.circuit_spec.specs.HopRules.{HasSegment}
 use Rattle.circuit_spec.specs.CappedOutcome.{IsCappedOutcome}
 use Rattle.circuit_spec.proofs.ClassLemmas.{class_of_itself}
@@ -36,7 +35,7 @@ use Rattle.answer_text.specs.declared.answer.PotLine.{PotLine}
 use Rattle.answer_text.specs.declared.answer.RootName.{RootName}
 use Rattle.answer_text.specs.declared.answer.RootName.TheVariants as root
 use Rattle.answer_text.specs.Potentials.{root_place, IsListed, IsListedWithin, IsPotential, ArePotentials}
-use Rattle.answer_text.specs.Certificate.{Certificate, first_label, first_place, AreCarried, AreFlagged, Arrives, IsWeighed, IsKeptPlace, IsKeptRoot, IsPlaced, Keeps, Puts, Takes, hop_weight, StartsAreListed, RootIsListed, IsListedRoot, IsExtended, IsOpened, IsNested, IsLeastListed, Agrees}
+use Rattle.answer_text.specs.Certificate.{Certificate, first_label, AreCarried, AreFlagged, Arrives, IsWeighed, IsKeptPlace, IsKeptRoot, IsPlaced, hop_weight, StartsAreListed, RootIsListed, IsExtended, IsOpened, IsNested, IsLeastListed, Agrees}
 use Rattle.answer_text.specs.Exact.{AreHopsOf, IsExactAnswer}
 
 -- what holds of each item that the list contains holds of all
@@ -231,7 +230,7 @@ module _ (T : Topology) (r : Request) (listed : List PotLine) (pots : ArePotenti
       let at = pots.reached root.Request to.0 (out.hops, to.2) in
       let low = subst (IsCappedAtMost at.0) out.weight ((least_of root.Request to.0 at.0 at.1).least out.hops to.2) in
       let lowest : (place : PlaceName) (v : Weight) → IsTarget T r place → IsListed listed root.Request place v → IsCappedAtMost w v =
-        λ place v target l. let walk = walk_of place v target l in subst (IsCappedAtMost w) walk.2 (out.least walk.0 walk.1) in
+      λ place v target l. let walk = walk_of place v target l in subst (IsCappedAtMost w) walk.2 (out.least walk.0 walk.1) in
       record {
         place = to.0;
         target = to.1;

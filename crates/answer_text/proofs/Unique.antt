@@ -1,7 +1,5 @@
 -- A request has one list of potentials: strictly rising lists of the same items are one.
-use Rattle.std.specs.Prelude.{Contains}
-use Rattle.std.proofs.Common.{◌≡◌, ◌⊎◌, ◌<◌, ◌≤◌, ℕ, zero, suc, inl, inr, List, [], ◌∷◌, length, Bool, true, false, ◌&&◌, ◌||◌, Option, None, Some, refl, sym, ◌∙◌, ap, subst, get_or, arith, IsTrue, Ordering, Less, Equal, Greater}
-use Rattle.std.specs.Prelude.{nat_lt, nat_eq}
+use Rattle.std.proofs.Common.{◌≡◌, ◌⊎◌, ◌<◌, ℕ, zero, suc, inl, inr, List, [], ◌∷◌, length, Bool, true, ◌&&◌, ◌||◌, Option, None, Some, refl, sym, ◌∙◌, ap, subst, get_or, arith, Ordering, Less, Equal, Greater}
 use Rattle.std.specs.Ordering.{nat_cmp, is_lt}
 use Rattle.std.specs.Cmp.Lexicographic.{slice_cmp}
 use Rattle.std.specs.Str.{bytes_eq}
@@ -23,7 +21,7 @@ use Rattle.domain_config.specs.Rules.{is_below}
 use Rattle.answer_text.specs.declared.answer.PotLine.{PotLine}
 use Rattle.answer_text.specs.declared.answer.RootName.{RootName}
 use Rattle.answer_text.specs.declared.answer.RootName.TheVariants as root
-use Rattle.answer_text.specs.Spelling.{is_tag_below, same_tag, is_place_below, same_place, is_pot_below, may_follow_pot}
+use Rattle.answer_text.specs.Spelling.{is_tag_below, same_tag, is_place_below, same_place, is_pot_below}
 use Rattle.answer_text.specs.Ordered.{ArePotsInOrder}
 use Rattle.answer_text.specs.Potentials.{root_place, IsListed, IsPotential, ArePotentials}
 
