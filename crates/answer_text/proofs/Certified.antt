@@ -1,13 +1,11 @@
 -- The answer of a search keeps the rules of the certificate.
 use Rattle.std.specs.Prelude.{Contains}
 use Rattle.std.specs.List.{All}
-use Rattle.std.proofs.Common.{◌≡◌, ◌+◌, ℕ, List, [], ◌∷◌, Option, refl, sym, ◌∙◌, ap, subst, get_or, arith}
+use Rattle.std.proofs.Common.{◌≡◌, ◌+◌, ℕ, List, [], ◌∷◌, refl, sym, ◌∙◌, ap, subst, get_or, arith}
 use Rattle.std.proofs.lemmas.Grind.{common_steps}
 use Rattle.std.proofs.lemmas.List.Elements.{All-contains, Contains-get_or}
 use Rattle.ml_base.specs.declared.weight.Weight.{Weight}
 use Rattle.ml_base.specs.declared.weight.Weight.TheVariants.{Known, Past}
-use Rattle.ml_base.specs.declared.numbers.Wish.{Wish}
-use Rattle.ml_base.specs.declared.numbers.Wish.TheVariants.{Any, Value}
 use Rattle.ml_base.specs.Weight.{IsCappedAtMost, cap, capped_total}
 use Rattle.ml_base.proofs.Laws.{full, cap-total, at_most-antisym}
 use Rattle.circuit_spec.specs.declared.hops.Frame.{Frame}
@@ -17,9 +15,8 @@ use Rattle.circuit_spec.specs.declared.hops.Request.{Request}
 use Rattle.circuit_spec.specs.declared.hops.Outcome.{Outcome}
 use Rattle.circuit_spec.specs.declared.hops.Outcome.TheVariants as outcome
 use Rattle.circuit_spec.specs.declared.hops.Unit.{Unit as DataUnit}
-use Rattle.circuit_spec.specs.Network.{Tag, Topology, Port, IsClass, IsOpen}
-use Rattle.circuit_spec.specs.Steps.{IsOutcome, IsLeastCapped, IsWished, Ends, Joins, Run, Step, Walk, cost_of, unit_at, weight_of}
-use Rattle.circuit_spec.specs.Flags.{AreFlags, flags_after}
+use Rattle.circuit_spec.specs.Network.{Topology, IsClass, IsOpen}
+use Rattle.circuit_spec.specs.Steps.{IsOutcome, IsLeastCapped, Step, cost_of, weight_of}
 use Rattle.circuit_spec.specs.Kept.{HasKept, IsOverKept}
 use Rattle.circuit_spec.specs.Keeping.{Keeping, GivesKeepers}
 use Rattle.circuit_spec.specs.Faults.{IsSound, IsKnown}
@@ -35,7 +32,8 @@ use Rattle.answer_text.specs.declared.answer.PotLine.{PotLine}
 use Rattle.answer_text.specs.declared.answer.RootName.{RootName}
 use Rattle.answer_text.specs.declared.answer.RootName.TheVariants as root
 use Rattle.answer_text.specs.Potentials.{root_place, IsListed, IsListedWithin, IsPotential, ArePotentials}
-use Rattle.answer_text.specs.Certificate.{Certificate, first_label, AreCarried, AreFlagged, Arrives, IsWeighed, IsKeptPlace, IsKeptRoot, IsPlaced, hop_weight, StartsAreListed, RootIsListed, IsExtended, IsOpened, IsNested, IsLeastListed, Agrees}
+use Rattle.answer_text.specs.Certificate.{Certificate, AreCarried, Arrives, IsWeighed, IsKeptPlace, IsKeptRoot, IsPlaced, hop_weight, StartsAreListed, RootIsListed, IsExtended, IsOpened, IsNested, IsLeastListed, Agrees}
+use Rattle.answer_text.proofs.Carried.{walk_carried}
 use Rattle.answer_text.specs.Exact.{AreHopsOf, IsExactAnswer}
 
 -- what holds of each item that the list contains holds of all
@@ -43,20 +41,6 @@ all_of : {A : Type 0} (P : A → Type 0) (xs : List A) → ((x : A) → Contains
 all_of P xs each k d within = each (get_or xs k d) (Contains-get_or xs k d within)
 
 -- ---- the hops
-
--- the hops of a walk begin with the label of its start
-begins_with : (T : Topology) (wish : Wish) (class : Port) (label : Tag) (h : Hop) (hops : List Hop) (end : DataUnit) → IsWished wish label
-    → Run T (unit_in (record { class = class.id; label = label }) []) (h ∷ hops) end → label ≡ first_label wish (h ∷ hops)
-begins_with T (Value n) class label h hops end wished run = wished
-begins_with T Any class label h hops end wished run = run.1.before.same_label
-
-walk_carried : (T : Topology) (r : Request) (hops : List Hop) → Walk T r hops → AreCarried T r hops
-walk_carried T r [] (ends, run) = (ends.from, ends.from_allowed.place.is_class, (_, refl))
-walk_carried T r (h ∷ hops) (ends, run) =
-    let end = unit_at ends.to ends.to_label [] in
-    let P : Tag → Type 0 = λ label. Run T (unit_at ends.from label []) (h ∷ hops) end in
-    let same = begins_with T r.from_wish ends.from ends.from_label h hops end ends.from_allowed.wished run in
-    (ends.from, ends.from_allowed.place.is_class, (end, subst P same run))
 
 none_carried : (T : Topology) (r : Request) (hops : List Hop) → IsKnown T r → hops ≡ [] → AreCarried T r hops
 none_carried T r hops known none = subst (AreCarried T r) (sym none) (known.0.0, known.0.1, (_, refl))
@@ -78,16 +62,6 @@ weighed T r (outcome.Found c n) hops out is = (is.1, out.2)
 weighed T r outcome.NoWalk hops out is = tt
 weighed T r outcome.Past hops out is = tt
 weighed T r (outcome.Long c n) hops out is = out.1
-
--- Flags from where a walk begins are those of its hops.
-pub walk_flagged : (T : Topology) (r : Request) (hops : List Hop) (flags : List (Option ℕ)) (ends : Ends T r) → Joins ends hops [] → AreFlags T (record { class = ends.from.id; label = ends.from_label }) hops flags → AreFlagged T r hops flags
-walk_flagged T r [] flags ends run are =
-    let start : PlaceName = record { class = ends.from.id; label = ends.from_label } in
-    (ends.from, ends.from_allowed.place.is_class, ([], refl, are.2 ∙ ap (flags_after (start ∷ [])) are.1))
-walk_flagged T r (h ∷ hops) flags ends run are =
-    let P : Tag → Type 0 = λ label. AreFlags T (record { class = ends.from.id; label = label }) (h ∷ hops) flags in
-    let same = begins_with T r.from_wish ends.from ends.from_label h hops (unit_at ends.to ends.to_label []) ends.from_allowed.wished run in
-    (ends.from, ends.from_allowed.place.is_class, subst P same are)
 
 -- ---- places
 
