@@ -31,8 +31,8 @@ pub fn exact_answers_are_certified()
     ensures { (T : Topology) (a : Answer) (keeping : Keeping) → IsSound T → GivesKeepers T a.request keeping → IsExactAnswer T a → Certificate T a }
 {}
 
-/// A certificate bounds all walks, over all labels: what is found is a circuit of the stated weight and no walk weighs less, and where none
-/// is found there is none, or none within what is stated.
+/// A certificate bounds all walks, over all labels: what is found is a circuit of the stated weight and no walk weighs less. Otherwise there
+/// is no walk, or none below what is stated.
 pub fn certificates_bound_walks()
     ensures { (T : Topology) (a : Answer) (keeping : Keeping) → IsSound T → GivesKeepers T a.request keeping → IsWellFormed a → Certificate T a → BoundsWalks T a.request a.outcome a.hops }
 {}
