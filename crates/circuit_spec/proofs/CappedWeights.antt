@@ -124,9 +124,9 @@ capped_outcome T r (outcome.Long c h) is = is
 pub long_outcome : (T : Topology) (r : Request) (w : FullWeight) (c h : ℕ) → IsLeastWeight T r w → IsOutcome T r (outcome.Long c h) ↔ ((HOP_LIMIT < w.hops) × (cap w ≡ Known c h))
 long_outcome T r w c h least = (
   λ is.
-    let same = same_capped T r (Known c h) w is.0 least in
-    let at = cap_known w c h same in
-    let over : HOP_LIMIT < h = is.1 in
-    (omega (arith, at.2, min-le_left w.hops (2 ^ 40), over), same),
+      let same = same_capped T r (Known c h) w is.0 least in
+      let at = cap_known w c h same in
+      let over : HOP_LIMIT < h = is.1 in
+      (omega (arith, at.2, min-le_left w.hops (2 ^ 40), over), same),
   λ both. (least_capped T r w (Known c h) least both.1, over_limit w.hops h (cap_known w c h both.1).2 both.0),
 )

@@ -124,7 +124,11 @@ fn refusals(rt: HostRuntime) -> Result<(), Fail> {
     let cases = [
         ("find a any q any one.json", 4, "request unknown-port q\n"),
         ("find a 7 b any one.json", 4, "request label-not-here a 7\n"),
-        ("find p 7 q any vlan.json", 4, "request label-not-here p 7\n"),
+        (
+            "find p 7 q any vlan.json",
+            4,
+            "request label-not-here p 7\n",
+        ),
         (
             "survey one.json one.json",
             3,
