@@ -1,10 +1,12 @@
 -- Lists in strict order: how the items stand to each other, and to what an order is told by.
 use Rattle.std.proofs.Common.{◌≡◌, ◌∙◌, refl, sym, ap, subst, ℕ, zero, suc, ◌<◌, ◌≤◌, List, [], ◌∷◌, length, get_or, Bool, true, false, None, Some, arith, Ordering, Less, Equal, Greater}
-use Rattle.std.specs.Prelude.{nat_lt, slice_get}
+use Rattle.std.specs.Prelude.{nat_lt, slice_get, ◌||◌, ◌&&◌}
+use Rattle.std.specs.Str.{bytes_eq}
+use Rattle.std.proofs.lemmas.Map.Text.{is_eq-slice_cmp}
 use Rattle.std.proofs.lemmas.Option.{get_or_from_slice_get, slice_get_within}
 use Rattle.std.specs.List.{AllByRecursion}
 use Rattle.std.specs.List.Sorted.{IsStrictlySortedBy, IsNonDecreasingBy}
-use Rattle.std.specs.Ordering.{nat_cmp, ordering_index, ordering_then}
+use Rattle.std.specs.Ordering.{nat_cmp, ordering_index, ordering_then, is_lt, is_eq}
 use Rattle.std.specs.Cmp.{IsTotalOrder}
 use Rattle.std.specs.Cmp.Lexicographic.{slice_cmp, nat_list_cmp_total, on_texts, options_total}
 use Rattle.std.specs.Option.{option_cmp}
@@ -112,3 +114,14 @@ first_below a b lt = then_first (slice_cmp nat_cmp a.class b.class) (option_cmp 
 -- two states of one place are one
 pub states_once : (places : List PlaceName) (i j : ℕ) (place : PlaceName) → IsRising places → slice_get places i ≡ Some place → slice_get places j ≡ Some place → i ≡ j
 states_once places i j place rise ati atj = once place_total places i j place rise ati atj
+
+then_below : (p q : Ordering) → is_lt (ordering_then p q) ≡ (is_lt p || (is_eq p && is_lt q))
+then_below Less q = refl
+then_below Equal q = refl
+then_below Greater q = refl
+
+-- a place is before another one by its class, or by its label where the classes are equal
+pub place_below : (a b : PlaceName) → is_lt (place_cmp a b) ≡ (is_lt (slice_cmp nat_cmp a.class b.class) || (bytes_eq a.class b.class && is_lt (option_cmp nat_cmp a.label b.label)))
+place_below a b =
+    then_below (slice_cmp nat_cmp a.class b.class) (option_cmp nat_cmp a.label b.label)
+    ∙ ap (λ (t : Bool). is_lt (slice_cmp nat_cmp a.class b.class) || (t && is_lt (option_cmp nat_cmp a.label b.label))) (is_eq-slice_cmp a.class b.class)
