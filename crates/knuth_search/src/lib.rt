@@ -8,6 +8,8 @@ mod settle;
 mod settled;
 mod table;
 #[cfg(test)]
+mod saturation;
+#[cfg(test)]
 mod tests;
 
 pub use run::search;
