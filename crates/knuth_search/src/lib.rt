@@ -4,11 +4,11 @@
 mod derived;
 mod queue;
 mod run;
+#[cfg(test)]
+mod saturation;
 mod settle;
 mod settled;
 mod table;
-#[cfg(test)]
-mod saturation;
 #[cfg(test)]
 mod tests;
 

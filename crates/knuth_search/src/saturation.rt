@@ -121,11 +121,23 @@ impl Saturation {
         Ok(pots)
     }
 
-    fn push_pots(&self, machine: &Machine, root: Root, pots: &mut Vec<Pot>) -> Result<(), NoMemory> {
+    fn push_pots(
+        &self,
+        machine: &Machine,
+        root: Root,
+        pots: &mut Vec<Pot>,
+    ) -> Result<(), NoMemory> {
         for number in 0..machine.states() {
             let state = StateNo(number);
             if let Some(weight) = self.weight(root, state) {
-                if pots.push(Pot { root, state, weight }).is_err() {
+                if pots
+                    .push(Pot {
+                        root,
+                        state,
+                        weight,
+                    })
+                    .is_err()
+                {
                     return Err(NoMemory);
                 }
             }
@@ -135,7 +147,11 @@ impl Saturation {
 }
 
 /// The table of a machine from these starts, or None where it still changes after a thousand rounds.
-pub fn saturate(alloc: Global, machine: &Machine, starts: &[StateNo]) -> Result<Option<Saturation>, NoMemory> {
+pub fn saturate(
+    alloc: Global,
+    machine: &Machine,
+    starts: &[StateNo],
+) -> Result<Option<Saturation>, NoMemory> {
     let mut table = Saturation::new(alloc, machine.states())?;
     for start in starts {
         table.lower(Root::Request, *start, Weight::zero());
@@ -166,7 +182,12 @@ fn add(machine: &mut Machine, step: Small) -> Result<(), NoMemory> {
 }
 
 /// The machine of these steps; a step over numbers that it does not have is left out.
-pub fn small_machine(alloc: Global, states: u64, frames: u64, steps: &[Small]) -> Result<Machine, NoMemory> {
+pub fn small_machine(
+    alloc: Global,
+    states: u64,
+    frames: u64,
+    steps: &[Small],
+) -> Result<Machine, NoMemory> {
     let mut machine = Machine::new(alloc, states, frames);
     for step in steps {
         add(&mut machine, *step)?;

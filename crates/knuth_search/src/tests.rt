@@ -166,19 +166,74 @@ fn search_and_saturation_agree(rt: HostRuntime) -> Result<(), Fail> {
     let most = 18_446_744_073_709_551_615;
     let cases: [(&str, u64, u64, &[Small]); 12] = [
         ("no steps", 2, 0, &[]),
-        ("a loop of no cost", 3, 1, &[(Flat, 0, 1, 0, 0), (Flat, 1, 0, 0, 0), (Flat, 1, 2, 0, 0)]),
-        ("pops that are not reached", 3, 1, &[(Pop, 0, 1, 0, 1), (Pop, 2, 1, 0, 1)]),
-        ("another frame", 4, 2, &[(Push, 0, 2, 0, 1), (Flat, 2, 3, 0, 1), (Pop, 3, 1, 1, 1)]),
-        ("an empty inner part", 3, 1, &[(Push, 0, 2, 0, 1), (Pop, 2, 1, 0, 1)]),
-        ("a stack that grows", 2, 1, &[(Push, 0, 0, 0, 1), (Flat, 0, 1, 0, 1), (Pop, 1, 1, 0, 0)]),
-        ("a cost of 2^64 - 1", 3, 1, &[(Flat, 0, 1, 0, most), (Flat, 0, 2, 0, 0)]),
-        ("a cost of 2^64", 4, 1, &[(Flat, 0, 1, 0, most), (Flat, 1, 2, 0, 1), (Flat, 2, 3, 0, 5)]),
-        ("past inside a nest", 4, 1, &[(Push, 0, 2, 0, 1), (Flat, 2, 3, 0, most), (Pop, 3, 1, 0, 0), (Flat, 0, 1, 0, most)]),
+        (
+            "a loop of no cost",
+            3,
+            1,
+            &[(Flat, 0, 1, 0, 0), (Flat, 1, 0, 0, 0), (Flat, 1, 2, 0, 0)],
+        ),
+        (
+            "pops that are not reached",
+            3,
+            1,
+            &[(Pop, 0, 1, 0, 1), (Pop, 2, 1, 0, 1)],
+        ),
+        (
+            "another frame",
+            4,
+            2,
+            &[(Push, 0, 2, 0, 1), (Flat, 2, 3, 0, 1), (Pop, 3, 1, 1, 1)],
+        ),
+        (
+            "an empty inner part",
+            3,
+            1,
+            &[(Push, 0, 2, 0, 1), (Pop, 2, 1, 0, 1)],
+        ),
+        (
+            "a stack that grows",
+            2,
+            1,
+            &[(Push, 0, 0, 0, 1), (Flat, 0, 1, 0, 1), (Pop, 1, 1, 0, 0)],
+        ),
+        (
+            "a cost of 2^64 - 1",
+            3,
+            1,
+            &[(Flat, 0, 1, 0, most), (Flat, 0, 2, 0, 0)],
+        ),
+        (
+            "a cost of 2^64",
+            4,
+            1,
+            &[
+                (Flat, 0, 1, 0, most),
+                (Flat, 1, 2, 0, 1),
+                (Flat, 2, 3, 0, 5),
+            ],
+        ),
+        (
+            "past inside a nest",
+            4,
+            1,
+            &[
+                (Push, 0, 2, 0, 1),
+                (Flat, 2, 3, 0, most),
+                (Pop, 3, 1, 0, 0),
+                (Flat, 0, 1, 0, most),
+            ],
+        ),
         (
             "one root entered twice",
             5,
             2,
-            &[(Push, 0, 3, 0, 1), (Push, 1, 3, 1, 1), (Pop, 4, 1, 0, 1), (Pop, 4, 2, 1, 1), (Flat, 3, 4, 0, 1)],
+            &[
+                (Push, 0, 3, 0, 1),
+                (Push, 1, 3, 1, 1),
+                (Pop, 4, 1, 0, 1),
+                (Pop, 4, 2, 1, 1),
+                (Flat, 3, 4, 0, 1),
+            ],
         ),
         (
             "four deep",
@@ -215,7 +270,10 @@ fn search_and_saturation_agree(rt: HostRuntime) -> Result<(), Fail> {
         let machine = small_machine(alloc, states, frames, steps)?;
         if machine.states() >= 2 {
             assert!(rt; both_agree(alloc, &machine, &[StateNo(0)])?, "{name}");
-            assert!(rt; both_agree(alloc, &machine, &[StateNo(1), StateNo(0)])?, "{name}, from two starts");
+            assert!(rt;
+                both_agree(alloc, &machine, &[StateNo(1), StateNo(0)])?,
+                "{name}, from two starts"
+            );
         }
     }
     Ok(())
