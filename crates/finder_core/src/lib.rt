@@ -3,6 +3,7 @@
 
 mod faults;
 mod known;
+mod listing;
 mod solving;
 
 pub use faults::SolveFault;
