@@ -1,5 +1,5 @@
 -- A cheapest segment of the machine of a request tells its outcome.
-use Rattle.std.proofs.Common.{◌≡◌, ℕ, ◌<◌, ◌≤◌, ◌^◌, ◌⊎◌, inl, inr, List, [], ◌∷◌, Bool, true, false, Option, None, Some, length, min, nat_lt, refl, sym, ◌∙◌, ap, subst, arith, Contains}
+use Rattle.std.proofs.Common.{◌≡◌, ℕ, ◌<◌, ◌≤◌, ◌^◌, ◌⊎◌, inl, inr, List, [], length, min, nat_lt, refl, sym, ◌∙◌, ap, subst, arith, Contains}
 use Rattle.std.proofs.lemmas.Bool.{cases_lt, cond-true, cond-false, lt-ltb, le-ltb}
 use Rattle.std.proofs.lemmas.Option.{slice_get_within}
 use Rattle.std.proofs.lemmas.Grind.{common_steps}
@@ -11,21 +11,19 @@ use Rattle.ml_base.specs.declared.weight.Weight.TheVariants as weight
 use Rattle.adapt_machine.specs.Machine.{MachineValue}
 use Rattle.adapt_machine.specs.Walks.{full_weight_of}
 use Rattle.segment_grammar.specs.Reached.{IsReached, IsSegmentUnder}
-use Rattle.segment_grammar.proofs.Places.{at_contains}
 use Rattle.deriv_arena.specs.declared.Deriv.{Deriv}
 use Rattle.deriv_arena.specs.Derivation.{kept_weight, unfolding_of}
 use Rattle.knuth_search.specs.Settled.{IsBest}
 use Rattle.circuit_spec.specs.declared.hops.Hop.{Hop}
 use Rattle.circuit_spec.specs.declared.hops.Outcome.{Outcome}
 use Rattle.circuit_spec.specs.declared.hops.Outcome.TheVariants.{Found, NoWalk, Past, Long}
-use Rattle.circuit_spec.specs.declared.hops.PlaceName.{PlaceName}
 use Rattle.circuit_spec.specs.declared.hops.Request.{Request}
 use Rattle.circuit_spec.specs.declared.hops.TheConstants.{HOP_LIMIT}
 use Rattle.circuit_spec.specs.CappedOutcome.{IsCappedOutcome}
 use Rattle.circuit_spec.specs.Faults.{IsSound}
 use Rattle.circuit_spec.specs.Network.{Topology}
 use Rattle.circuit_spec.specs.Segments.{request, IsWalkOverKept}
-use Rattle.circuit_spec.specs.Steps.{IsLeastCapped, IsOutcome, Walk, weight_of}
+use Rattle.circuit_spec.specs.Steps.{IsLeastCapped, IsOutcome, weight_of}
 use Rattle.circuit_spec.proofs.CappedWeights.{cap_known, exact_outcome}
 use Rattle.circuit_spec.proofs.KeptWalks.{kept_outcome, segment_walk, walk_segment}
 use Rattle.kept_table.specs.Table.{keeping_of}

@@ -83,10 +83,12 @@ fn search_machine(
     ensures hops { IfOk result (λ s. IsListed inventory.now request.now s.outcome s.hops) }
 {
     let machine = built.machine();
+    let starts = built.starts();
+    let targets = built.targets();
     let index = Index::new(alloc, machine)?;
     let arena = Bump::new(alloc);
-    let settled = search(alloc, machine, &index, built.starts(), &arena)?;
-    match settled.best(built.targets()) {
+    let settled = search(alloc, machine, &index, starts, &arena)?;
+    match settled.best(targets) {
         Some(deriv) => answer(alloc, inventory, request, built, deriv),
         None => Ok(Solved {
             outcome: Outcome::NoWalk,
