@@ -1,0 +1,8 @@
+//! The kept labels of a network, by label type.
+#![tactic(auto)]
+
+mod building;
+mod table;
+
+pub use building::kept_of;
+pub use table::KeptTable;
