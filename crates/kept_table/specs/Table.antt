@@ -29,9 +29,9 @@ labels_in table labeltype = unwrap_or (option_map (λ (row : KeptOfType). row.ke
 abbrev pub keeping_of : List KeptOfType → Keeping
 keeping_of table labeltype label =
     unwrap_or (keeper_found (row_of_type table labeltype)) label where
-  keeper_found : Option KeptOfType → Option ℕ
-  keeper_found None = None
-  keeper_found (Some row) = keeper_of row.kept label
+      keeper_found : Option KeptOfType → Option ℕ
+      keeper_found None = None
+      keeper_found (Some row) = keeper_of row.kept label
 
 -- the label types of a table, in its order
 abbrev pub types_in : List KeptOfType → List Name

@@ -18,6 +18,8 @@ pub fn kept_of(
     requires known { IsKnown inventory.now request.now }
     ensures { IfOk result (IsKeptTable inventory.now request.now) }
 {
-    let _ = (alloc, inventory, request);
+    let _ = alloc;
+    let _ = inventory;
+    let _ = request;
     Err(NoMemory)
 }

@@ -1,5 +1,7 @@
-ghost use Rattle.std.specs.Prelude.{◌≡◌, length};
+ghost use Rattle.std.specs.Prelude.{◌≡◌, length, map};
+ghost use Rattle.std.specs.Rc.{rc_str_bytes};
 ghost use Rattle.label_atoms.specs.Alike.{Climbing};
+ghost use Rattle.kept_table.specs.Rows.{AreRows, row_of};
 ghost use Rattle.kept_table.specs.Table.{labels_in};
 
 use indexmap::IndexSet;
@@ -37,6 +39,14 @@ impl Model for KeptTable {
 }
 
 impl KeptTable {
+    /// The table of these rows, whose label types are these.
+    pub(crate) fn new(types: IndexSet<RcStr<Global>>, rows: Vec<KeptRow>) -> KeptTable
+        requires { AreRows (map rc_str_bytes types.keys) rows.items }
+        ensures { result ≡ map row_of rows.items }
+    {
+        KeptTable { types, rows }
+    }
+
     /// How many label types the classes and the links have.
     pub fn types(&self) -> u64
         ensures { result ≡ length self.now }
