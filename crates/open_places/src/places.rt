@@ -1,4 +1,4 @@
-ghost use Rattle.std.specs.Prelude.{◌≡◌, ◌<◌, ◌≤◌, ℕ, Some, MatchOption, length, slice_get};
+ghost use Rattle.std.specs.Prelude.{◌≡◌, ◌<◌, ◌≤◌, ℕ, Some, MatchOption, length, slice_get, slice_range};
 ghost use Rattle.std.specs.List.{Contains};
 ghost use Rattle.open_places.specs.Spans.{IsLabelled, IsSpanOf};
 
@@ -66,10 +66,19 @@ impl Places {
         requires { IsSpanOf self.now span }
         ensures { MatchOption result ((state : ℕ) → ¬ IsLabelled self.now span label state) (λ state. IsLabelled self.now span label state.0) }
     {
-        let states = &self.places[span.first as usize..span.end as usize];
+        let states = in_span(&self.places, span);
         match states.binary_search_by(|place| place.label.cmp(&label)) {
-            Ok(state) => Some(StateNo(span.first + state as u64)),
+            Ok(place) => Some(StateNo(span.first + place as u64)),
             Err(_) => None,
         }
     }
+}
+
+/// The places of the states of a span.
+fn in_span(places: &[PlaceName], span: Span) -> &[PlaceName]
+    requires proper { span.first ≤ span.end }
+    requires within { span.end ≤ length places.now }
+    ensures { result.now ≡ slice_range places.now span.first span.end }
+{
+    &places[span.first as usize..span.end as usize]
 }
