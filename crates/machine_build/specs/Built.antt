@@ -85,16 +85,16 @@ pub record IsDoneBy (T : Topology) (frames : List Frame) (x y : PlaceName) (t : 
   pub moves : MovesBy T frames x y h t.frame.0 t.kind
 
 -- the state is an allowed place of an end
-pub record IsAllowedState (T : Topology) (b : BuiltValue) (port : Name) (wish : Wish) (state : StateNo) : Type 0 where
+pub record IsAllowedState (T : Topology) (places : List PlaceName) (port : Name) (wish : Wish) (state : StateNo) : Type 0 where
   pub place : PlaceName
   pub class : Port
-  pub is_state : IsState b state place
+  pub is_state : slice_get places state.0 ≡ Some place
   pub named : place.class ≡ class.id
   pub allowed : IsAllowed T port wish class place.label
 
 -- the states are those that are allowed places of an end
-abbrev pub AreAllowed : Topology → BuiltValue → Name → Wish → List StateNo → Type 0
-AreAllowed T b port wish states = (state : StateNo) → Contains states state ↔ IsAllowedState T b port wish state
+abbrev pub AreAllowed : Topology → List PlaceName → Name → Wish → List StateNo → Type 0
+AreAllowed T places port wish states = (state : StateNo) → Contains states state ↔ IsAllowedState T places port wish state
 
 -- The machine of the topology over a table of labels, for a request: its states are the open places whose label, if any, is in the
 -- table; each step has one hop, which is a hop of the network between its places, of its kind and cost; and each hop of the network
@@ -112,5 +112,5 @@ pub record IsBuilt (T : Topology) (table : List KeptOfType) (r : Request) (b : B
   pub complete : (x y : PlaceName) (s u : List Frame) (h : Hop) → IsStatePlace T table x → IsStatePlace T table y
       → Step T (unit_in x s) h (unit_in y u) → (k : ℕ) × (hop : IsHopAt T b k h) × (hop.leaves ≡ x) × (hop.enters ≡ y)
   pub once : (j k : ℕ) (h : Hop) → IsHopAt T b j h → IsHopAt T b k h → j ≡ k
-  pub starts_are : AreAllowed T b r.from r.from_wish b.starts
-  pub targets_are : AreAllowed T b r.to r.to_wish b.targets
+  pub starts_are : AreAllowed T b.places r.from r.from_wish b.starts
+  pub targets_are : AreAllowed T b.places r.to r.to_wish b.targets

@@ -2,8 +2,13 @@ ghost use Rattle.std.specs.Prelude.{IfOk};
 ghost use Rattle.circuit_spec.specs.Faults.{IsKnown, IsSound};
 ghost use Rattle.machine_build.specs.Built.{IsBuilt};
 
+use crate::adding::moves_of;
+use crate::allowed::allowed;
 use crate::built::Built;
+use crate::frames::count_frames;
+use crate::machine::{machine_of, sites_of};
 use circuit_spec::Request;
+use indexmap::IndexSet;
 use kept_table::KeptTable;
 use ml_base::NoMemory;
 use nml_inventory::Inventory;
@@ -21,7 +26,19 @@ pub fn build(
     requires known { IsKnown inventory.now request.now }
     ensures { IfOk result (IsBuilt inventory.now kept.now request.now) }
 {
-    let _ = request.share()?;
-    let _ = open_places(alloc, inventory, kept)?;
-    Err(NoMemory)
+    inventory.is_merged();
+    let places = open_places(alloc, inventory, kept)?;
+    let mut frames = IndexSet::new(alloc);
+    let moves = moves_of(alloc, inventory, &places, &mut frames)?;
+    let machine = machine_of(alloc, &moves, places.len(), count_frames(&frames))?;
+    let sites = sites_of(alloc, &moves)?;
+    let starts = allowed(alloc, inventory, &places, &request.from, request.from_wish)?;
+    let targets = allowed(alloc, inventory, &places, &request.to, request.to_wish)?;
+    Ok(Built {
+        machine,
+        places,
+        sites,
+        starts,
+        targets,
+    })
 }

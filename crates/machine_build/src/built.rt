@@ -24,11 +24,11 @@ pub struct Site {
 /// The machine of a network for a request, with the places of its states and the hops of its steps.
 #[derive(Drop)]
 pub struct Built {
-    machine: Machine,
-    places: Places,
-    sites: Vec<Site>,
-    starts: Vec<StateNo>,
-    targets: Vec<StateNo>,
+    pub(crate) machine: Machine,
+    pub(crate) places: Places,
+    pub(crate) sites: Vec<Site>,
+    pub(crate) starts: Vec<StateNo>,
+    pub(crate) targets: Vec<StateNo>,
 }
 
 impl Model for Built {
