@@ -1,18 +1,17 @@
 -- Why requests are refused.
-use Rattle.std.proofs.Common.{◌≡◌, ℕ, inl, inr, Bool, true, false, Option, None, Some, refl, sym, ◌∙◌, ap, subst}
-use Rattle.std.specs.Prelude.{slice_get, option_map, OnOk, IfErr, Result, Ok, Err}
+use Rattle.std.proofs.Common.{◌≡◌, ℕ, inl, inr, true, false, Option, None, Some, refl, sym, ◌∙◌, ap, subst}
+use Rattle.std.specs.Prelude.{slice_get, option_map}
 use Rattle.std.specs.List.{find}
 use Rattle.std.specs.Option.{option_and_then}
 use Rattle.std.specs.Str.{bytes_eq}
 use Rattle.std.proofs.lemmas.Bool.{both_ways}
 use Rattle.std.proofs.lemmas.Slice.Eq.{bytes_eq-Decides}
 use Rattle.ml_base.specs.declared.numbers.PortNo.{PortNo}
-use Rattle.ml_base.specs.declared.numbers.Wish.{Wish}
 use Rattle.ml_base.specs.declared.numbers.Wish.TheVariants.{Any, Value}
 use Rattle.nml_elements.specs.declared.elements.Labels.{Labels}
 use Rattle.nml_elements.specs.Labels.{is_among}
 use Rattle.circuit_spec.specs.declared.hops.Request.{Request}
-use Rattle.circuit_spec.specs.Faults.{IsHere, IsKnown, IsKnownEnd}
+use Rattle.circuit_spec.specs.Faults.{IsKnownEnd}
 use Rattle.circuit_spec.specs.Network.{Name, Topology, Port, IsClass, ports}
 use Rattle.circuit_spec.specs.Requests.{IsMissedAt, IsPort}
 use Rattle.circuit_spec.proofs.Alone.{found_port}

@@ -1,5 +1,5 @@
 -- The machine of a network and the network do what the other does.
-use Rattle.std.proofs.Common.{◌≡◌, ℕ, List, [], ◌∷◌, Option, None, Some, refl, sym, ◌∙◌, ap, subst, Contains}
+use Rattle.std.proofs.Common.{◌≡◌, ℕ, List, [], ◌∷◌, None, Some, refl, sym, ◌∙◌, ap, subst, Contains}
 use Rattle.std.specs.Prelude.{slice_get}
 use Rattle.ml_base.specs.declared.numbers.FrameNo.{FrameNo}
 use Rattle.ml_base.specs.declared.numbers.StateNo.{StateNo}
@@ -19,14 +19,13 @@ use Rattle.circuit_spec.specs.Network.{Name, Tag, Topology, Port, IsClass, IsOpe
 use Rattle.circuit_spec.specs.Segments.{unit_in, IsStart, IsTarget}
 use Rattle.circuit_spec.specs.Steps.{Step, cost_of}
 use Rattle.circuit_spec.proofs.ClassLemmas.{First-unique, class_of_itself}
-use Rattle.circuit_spec.proofs.Effects.{Keeps}
 use Rattle.circuit_spec.proofs.HopSegments.{kept_system}
 use Rattle.circuit_spec.proofs.Matching.{not_kept, unlike}
 use Rattle.kept_table.specs.Table.{IsKeptTable, KeptOfType}
 use Rattle.open_places.specs.Places.{IsListed, IsStatePlace}
 use Rattle.machine_build.specs.Built.{BuiltValue, IsAllowedState, IsBuilt, IsHopAt, IsState, MovesBy}
 use Rattle.machine_lift.proofs.OneHop.{kept_kind, one_put, one_taken, put_kind, taken_kind}
-use Rattle.machine_lift.proofs.Simulations.{Relating, Does, Simulates}
+use Rattle.machine_lift.proofs.Simulations.{Relating, Simulates}
 use Rattle.machine_lift.proofs.States.{one_number, same_at}
 
 one_class : (T : Topology) (id : Name) (x y : Port) → IsClass T id x → IsClass T id y → x ≡ y

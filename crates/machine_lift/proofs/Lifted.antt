@@ -8,7 +8,7 @@ use Rattle.ml_base.specs.declared.numbers.FrameNo.{FrameNo}
 use Rattle.ml_base.specs.declared.numbers.StateNo.{StateNo}
 use Rattle.ml_base.specs.declared.numbers.Root.{Root}
 use Rattle.ml_base.specs.declared.numbers.Root.TheVariants as root
-use Rattle.walk_grammar.specs.System.{Goes, Origin, Run, IsSegmentUnder as IsUnder, cost_of as system_cost}
+use Rattle.walk_grammar.specs.System.{Goes, Run, IsSegmentUnder as IsUnder, cost_of as system_cost}
 use Rattle.adapt_machine.specs.declared.MachineStep.{MachineStep}
 use Rattle.adapt_machine.specs.Walks.{full_weight_of, system_of}
 use Rattle.segment_grammar.specs.Reached.{IsSegmentUnder, origin_of}
@@ -24,7 +24,7 @@ use Rattle.machine_build.specs.Built.{BuiltValue, IsBuilt, IsHopAt, IsState}
 use Rattle.machine_lift.specs.Lift.{AreHopsAt, AreLifted, AreStatesOf, IsRootAt}
 use Rattle.machine_lift.proofs.Doing.{down, kept_end, machine_does, network_does, place_state, start_place, target_place, up}
 use Rattle.machine_lift.proofs.OneHop.{one_hop}
-use Rattle.machine_lift.proofs.Simulations.{AreRelated, AreRoots, Stands, stands}
+use Rattle.machine_lift.proofs.Simulations.{AreRelated, Stands, stands}
 
 -- Hops of steps
 

@@ -1,5 +1,5 @@
 -- A step has one hop, and a hop does one thing to the stack.
-use Rattle.std.proofs.Common.{◌≡◌, ℕ, List, [], ◌∷◌, ◌++◌, Some, refl, sym, ◌∙◌, ap, subst}
+use Rattle.std.proofs.Common.{◌≡◌, ℕ, [], ◌∷◌, ◌++◌, Some, refl, sym, ◌∙◌, ap, subst}
 use Rattle.std.specs.Prelude.{slice_get}
 use Rattle.nml_elements.specs.declared.elements.Element.{Element}
 use Rattle.nml_elements.specs.declared.elements.Element.TheVariants as element
@@ -10,7 +10,7 @@ use Rattle.circuit_spec.specs.declared.hops.HopKind.{HopKind}
 use Rattle.circuit_spec.specs.declared.hops.HopKind.TheVariants as kind
 use Rattle.circuit_spec.specs.declared.hops.PlaceName.{PlaceName}
 use Rattle.circuit_spec.specs.declared.hops.Unit.{Unit as DataUnit}
-use Rattle.circuit_spec.specs.Network.{Name, Tag, Topology, Placed, Port, IsClass, Linked, elements_of, id_of, ports}
+use Rattle.circuit_spec.specs.Network.{Name, Tag, Topology, Placed, Port, Linked, elements_of, id_of, ports}
 use Rattle.circuit_spec.specs.Steps.{Rule, Step}
 use Rattle.circuit_spec.specs.Segments.{unit_in}
 use Rattle.circuit_spec.proofs.ClassLemmas.{First-unique}

@@ -1,5 +1,5 @@
 -- A system that does what another does: each step of the one has a step of the other, between related states, of the same cost and over related frames.
-use Rattle.std.proofs.Common.{◌≡◌, ℕ, ◌+◌, List, [], ◌∷◌, length, refl, sym, ◌∙◌, ap, subst, inl, inr}
+use Rattle.std.proofs.Common.{◌≡◌, ◌+◌, List, [], ◌∷◌, refl, sym, ◌∙◌, ap, subst, inl, inr}
 use Rattle.walk_grammar.specs.System.{System, Origin, Request, Entry, Goes, Run, cost_of, IsEntered, IsSegmentUnder}
 
 -- items of one list are related to those of another, one after another

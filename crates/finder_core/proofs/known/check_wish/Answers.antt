@@ -1,8 +1,7 @@
 use Rattle.std.proofs.Common.{sym, ◌∙◌, subst}
-use Rattle.ml_base.specs.declared.numbers.Wish.TheVariants.{Value}
 use Rattle.circuit_spec.specs.Faults.{IsKnownEnd}
 use Rattle.circuit_spec.specs.Requests.{IsMissedAt}
-use Rattle.finder_core.proofs.Refused.{any_known, label_known, label_missed}
+use Rattle.finder_core.proofs.Refused.{label_known, label_missed}
 use Rattle.finder_core.proofs.known.check_wish.Goals as goal
 
 pub returns-then-has_label-clause-ok : goal.returns-then-has_label-clause-ok
