@@ -6,6 +6,7 @@
 --   HasRoom      an adaptation finds room on the stack
 --   IsRefused    the table of refusals: each says that its condition is the first that fails
 --   unit_after   where the hop takes the unit
+--   StepsWhereFitting, TellsOfSteps   what the conditions and the refusals say of a next unit
 use Rattle.std.specs.Prelude.{◌≡◌, ◌⊎◌, ◌↔◌, ◌<◌, ◌-◌, ℕ, List, [], ◌∷◌, ◌++◌, IsTrue, Some, length, take}
 use Rattle.nml_elements.specs.declared.elements.Element.{Element}
 use Rattle.nml_elements.specs.declared.elements.Element.TheVariants as element
