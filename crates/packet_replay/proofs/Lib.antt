@@ -1,7 +1,7 @@
-mod Named
-mod Listed
-mod Ported
-mod Opened
-mod Framed
-mod Stepping
-mod Refusing
+pub mod Named
+pub mod Listed
+pub mod Ported
+pub mod Opened
+pub mod Framed
+pub mod Stepping
+pub mod Refusing

@@ -1,5 +1,5 @@
 -- What look-ups by ids give: elements, ports and their classes.
-use Rattle.std.proofs.Common.{◌≡◌, ℕ, zero, suc, inl, inr, List, [], ◌∷◌, Bool, true, false, ◌&&◌, Option, None, Some, map, refl, sym, ◌∙◌, ap, subst}
+use Rattle.std.proofs.Common.{◌≡◌, ℕ, inl, inr, List, [], ◌∷◌, true, Option, None, Some, refl, sym, ◌∙◌, ap, subst}
 use Rattle.std.specs.Prelude.{slice_get, option_map}
 use Rattle.std.specs.List.{find}
 use Rattle.std.specs.Option.{option_and_then}
@@ -9,17 +9,16 @@ use Rattle.std.proofs.lemmas.Slice.Eq.{bytes_eq-Decides}
 use Rattle.ml_base.specs.declared.numbers.PortNo.{PortNo}
 use Rattle.nml_elements.specs.declared.elements.Element.{Element}
 use Rattle.circuit_spec.specs.declared.hops.Hop.{Hop}
-use Rattle.circuit_spec.specs.Network.{Name, Topology, Placed, Port, Chain, Linked, IsClass, elements_of, element_named, id_of, names, port_has, ports, related, states_alias}
+use Rattle.circuit_spec.specs.Network.{Name, Topology, Placed, Port, Chain, Linked, IsClass, elements_of, element_named, id_of, names, port_has, ports, states_alias}
 use Rattle.circuit_spec.proofs.Alone.{found_port}
 use Rattle.circuit_spec.proofs.Among.{IsAmong, among_first}
 use Rattle.circuit_spec.proofs.ClassLemmas.{First-unique}
 use Rattle.circuit_spec.proofs.Lists.{none_found}
 use Rattle.nml_inventory.specs.Aliases.{IsClassNumber}
-use Rattle.nml_inventory.specs.Numbers.{element_number, number_in, port_number}
+use Rattle.nml_inventory.specs.Numbers.{element_number, port_number}
 use Rattle.nml_inventory.proofs.Names.{find_number}
 use Rattle.nml_inventory.proofs.PortNumbers.{number_found}
 use Rattle.packet_replay.specs.declared.numbers.End.{End}
-use Rattle.packet_replay.specs.declared.numbers.Numbers.{Numbers}
 use Rattle.packet_replay.specs.Conditions.{IsWay, Way}
 use Rattle.packet_replay.specs.Numbered.{AreNumbers, IsEnd}
 

@@ -1,5 +1,5 @@
 -- What the labels of a class say of its open places.
-use Rattle.std.proofs.Common.{◌≡◌, ◌↔◌, ℕ, true, Option, None, Some, refl, sym, ◌∙◌}
+use Rattle.std.proofs.Common.{◌≡◌, ◌↔◌, ℕ, true, Option, None, Some, refl, sym}
 use Rattle.nml_elements.specs.declared.elements.Labels.{Labels}
 use Rattle.nml_elements.specs.declared.elements.Labels.TheVariants.{Unlabelled, Of}
 use Rattle.circuit_spec.specs.Network.{Topology, Port, IsOpen}

@@ -1,8 +1,8 @@
 -- The two ports of a hop, related by ids and by numbers.
-use Rattle.std.proofs.Common.{◌≡◌, ◌↔◌, ℕ, zero, suc, inl, inr, List, [], ◌∷◌, Bool, true, false, ◌&&◌, Option, None, Some, refl, sym, ◌∙◌, ap, subst}
-use Rattle.std.specs.Prelude.{slice_get, IsTrue}
+use Rattle.std.proofs.Common.{◌≡◌, ◌↔◌, ℕ, suc, inl, inr, List, [], ◌∷◌, Bool, true, false, ◌&&◌, Some, refl, sym, ◌∙◌, ap, subst}
+use Rattle.std.specs.Prelude.{slice_get}
 use Rattle.std.specs.Str.{bytes_eq}
-use Rattle.std.proofs.lemmas.Bool.{and_from, and_parts}
+use Rattle.std.proofs.lemmas.Bool.{and_parts}
 use Rattle.std.proofs.lemmas.Slice.Eq.{bytes_eq-Decides}
 use Rattle.nml_elements.specs.declared.elements.Element.{Element}
 use Rattle.nml_elements.specs.declared.elements.Element.TheVariants as element
@@ -10,7 +10,7 @@ use Rattle.circuit_spec.specs.declared.hops.Hop.{Hop}
 use Rattle.circuit_spec.specs.declared.hops.HopKind.{HopKind}
 use Rattle.circuit_spec.specs.declared.hops.HopKind.TheVariants as kind
 use Rattle.circuit_spec.specs.Faults.{duplicate_ids, merge_faults}
-use Rattle.circuit_spec.specs.Network.{Name, Topology, Placed, Port, names, port_has, ports, sends_into, serves, takes_from}
+use Rattle.circuit_spec.specs.Network.{Name, Topology, Port, names, port_has, ports}
 use Rattle.circuit_spec.specs.Steps.{inbound_of, outbound_of}
 use Rattle.circuit_spec.proofs.Alone.{found_port}
 use Rattle.circuit_spec.proofs.Among.{IsAmong, any_among}

@@ -1,5 +1,5 @@
 -- The refusals exclude one another, and what is refused is no step.
-use Rattle.std.proofs.Common.{◌≡◌, ◌≢◌, ◌↔◌, ℕ, Bool, true, false, Result, Ok, Err, refl, sym, ◌∙◌, ap, subst}
+use Rattle.std.proofs.Common.{◌≡◌, ◌≢◌, ◌↔◌, ℕ, Bool, true, false, Result, Ok, Err, refl, sym, ap, subst}
 use Rattle.std.specs.Prelude.{IsErrOf}
 use Rattle.circuit_spec.specs.declared.hops.Hop.{Hop}
 use Rattle.circuit_spec.specs.declared.hops.Unit.{Unit as DataUnit}
@@ -7,7 +7,7 @@ use Rattle.circuit_spec.specs.Network.{Topology}
 use Rattle.circuit_spec.specs.Steps.{Step}
 use Rattle.packet_replay.specs.declared.faults.StepFault.{StepFault}
 use Rattle.packet_replay.specs.declared.faults.StepFault.TheVariants.{NoHop, Label, Frame as NoFrame, Full, NoMemory}
-use Rattle.packet_replay.specs.Conditions.{Fits, FitsFrame, FitsLabels, HasRoom, IsRefused, IsRelated, IsWay, Way, unit_after}
+use Rattle.packet_replay.specs.Conditions.{Fits, FitsFrame, FitsLabels, HasRoom, IsRefused, IsRelated, IsWay, TellsOfSteps, Way, unit_after}
 use Rattle.packet_replay.proofs.Stepping.{fitting_steps, one_next, one_way, steps_fit}
 
 -- a hop that is not related by its way is not related
@@ -93,6 +93,20 @@ module _ (T : Topology) (room : ℕ) (u : DataUnit) (h : Hop) where
 
   pub one_refusal : (one other : StepFault) → IsRefused T room u h one → IsRefused T room u h other → one ≡ other
   one_refusal one other x y = one_says one other (says one x) (says other y)
+
+  step_framed : (v : DataUnit) → Step T u h v → Framed
+  step_framed v s = let f = steps_fit T u h v s in (f.0, f.1)
+
+  framed_step : Framed → (v : DataUnit) × Step T u h v
+  framed_step f = (unit_after h f.0 u, fitting_steps T u h f.0 f.1)
+
+  -- whether there is a next unit
+  pub refusal_tells : (fault : StepFault) → IsRefused T room u h fault → TellsOfSteps T u h fault
+  refusal_tells NoHop r = λ v s. says NoHop r (related (labelled (step_framed v s)))
+  refusal_tells Label r = λ v s. (says Label r).1 (labelled (step_framed v s))
+  refusal_tells NoFrame r = λ v s. (says NoFrame r).1 (step_framed v s)
+  refusal_tells Full r = framed_step (says Full r).0
+  refusal_tells NoMemory r = framed_step (framed r)
 
   -- A call's answer
 

@@ -6,6 +6,7 @@
 --   HasRoom      an adaptation finds room on the stack
 --   IsRefused    the table of refusals: each says that its condition is the first that fails
 --   unit_after   where the hop takes the unit
+--   StepsWhereFitting, TellsOfSteps   what the conditions and the refusals say of a next unit
 use Rattle.std.specs.Prelude.{◌≡◌, ◌⊎◌, ◌↔◌, ◌<◌, ◌-◌, ℕ, List, [], ◌∷◌, ◌++◌, IsTrue, Some, length, take}
 use Rattle.nml_elements.specs.declared.elements.Element.{Element}
 use Rattle.nml_elements.specs.declared.elements.Element.TheVariants as element
@@ -132,3 +133,11 @@ unit_after h way u = record {
 -- The unit has a next one exactly where the hop fits it.
 abbrev pub StepsWhereFitting : Topology → DataUnit → Hop → Type 0
 StepsWhereFitting T u h = ((v : DataUnit) × Step T u h v) ↔ ((way : Way) × Fits T u h way)
+
+-- what a refusal says of a next unit: that there is none, or that there is one
+abbrev pub TellsOfSteps : Topology → DataUnit → Hop → StepFault → Type 0
+TellsOfSteps T u h NoHop = (v : DataUnit) → ¬ Step T u h v
+TellsOfSteps T u h Label = (v : DataUnit) → ¬ Step T u h v
+TellsOfSteps T u h NoFrame = (v : DataUnit) → ¬ Step T u h v
+TellsOfSteps T u h Full = (v : DataUnit) × Step T u h v
+TellsOfSteps T u h NoMemory = (v : DataUnit) × Step T u h v

@@ -25,5 +25,5 @@ mod replay;
 mod tests;
 
 pub use faults::StepFault;
-pub use laws::{hops_that_fit, next_unit_is_one, refusal_is_one};
+pub use laws::{hops_that_fit, next_unit_is_one, refusal_is_one, refusals_tell_of_steps};
 pub use replay::Replay;

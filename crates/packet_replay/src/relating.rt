@@ -1,10 +1,10 @@
 ghost use Rattle.std.specs.Prelude.{◌≡◌, ◌↔◌, ◌<◌, ◌&&◌, IsTrue, Some, length, slice_get};
 ghost use Rattle.alias_merge.specs.Rising.{holds};
-ghost use Rattle.circuit_spec.specs.Network.{Placed, Port, elements_of, ports};
+ghost use Rattle.circuit_spec.specs.Network.{Name, Placed, Port, elements_of, ports};
 ghost use Rattle.packet_replay.specs.Conditions.{IsRelated, Relates, Way};
-ghost use Rattle.packet_replay.specs.Numbered.{AreNumbers, Rises, kind_of, numbers_in, relates_by};
+ghost use Rattle.packet_replay.specs.Numbered.{AreNumbers, IsEnd, Rises, kind_of, numbers_in, relates_by};
 
-use crate::numbers::{Numbers, element_at};
+use crate::numbers::{End, Numbers, element_at};
 use circuit_spec::{Hop, HopKind, Unit};
 use ml_base::PortNo;
 use nml_elements::Element;
@@ -104,13 +104,12 @@ fn is_in_domain(inventory: &Inventory, hop: &Hop, numbers: Numbers) -> bool
     hop.domain == *inventory.domain_of(numbers.element)
 }
 
-/// Whether the unit is in the from port's class.
-fn is_in_class(inventory: &Inventory, unit: &Unit, hop: &Hop, numbers: Numbers) -> bool
-    requires { (way : Way) × AreNumbers inventory.now hop.now way numbers }
-    ensures { (way : Way) → AreNumbers inventory.now hop.now way numbers → IsTrue result ↔ unit.now.class ≡ way.from.id }
+/// Whether the unit is in the class of the end.
+fn is_in_class(inventory: &Inventory, unit: &Unit, end: End) -> bool
+    requires { end.class.0 < length (ports inventory.now) }
+    ensures { (id : Name) (class : Port) → IsEnd inventory.now id class end → IsTrue result ↔ unit.now.class ≡ class.id }
 {
-    let _ = hop;
-    unit.class == *inventory.name(numbers.from.class)
+    unit.class == *inventory.name(end.class)
 }
 
 /// Whether the element is of the hop's domain and kind and relates its ports, and the unit is in the from port's class.
@@ -119,6 +118,6 @@ pub fn is_related(inventory: &Inventory, unit: &Unit, hop: &Hop, numbers: Number
     ensures { (way : Way) → AreNumbers inventory.now hop.now way numbers → IsTrue result ↔ IsRelated inventory.now unit.now hop.now way }
 {
     is_in_domain(inventory, hop, numbers)
-        && is_in_class(inventory, unit, hop, numbers)
+        && is_in_class(inventory, unit, numbers.from)
         && relates(inventory, hop, numbers)
 }

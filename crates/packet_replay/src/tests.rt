@@ -76,8 +76,19 @@ fn relabel(alloc: Global) -> Result<Hop, IdFault> {
     Ok(hop)
 }
 
-/// Whether a unit at the place takes the hop, or why it does not.
+/// Takes the unit over the hop in the topology of the text.
 fn stepped(
+    alloc: Global,
+    text: &str,
+    replay: &mut Replay,
+    hop: &Hop,
+) -> Result<Result<(), StepFault>, Fail> {
+    let inventory = inventory_of(alloc, text)?;
+    Ok(replay.step(&inventory, hop))
+}
+
+/// Whether a unit at the place takes the hop, or why it does not.
+fn first_step(
     alloc: Global,
     text: &str,
     class: &str,
@@ -85,31 +96,29 @@ fn stepped(
     room: u64,
     hop: &Hop,
 ) -> Result<Result<(), StepFault>, Fail> {
-    let inventory = inventory_of(alloc, text)?;
     let mut replay = replay_at(alloc, class, label, room)?;
-    Ok(replay.step(&inventory, hop))
+    stepped(alloc, text, &mut replay, hop)
 }
 
 /// The unit behind the three hops through the tunnel.
 fn through_the_tunnel(alloc: Global) -> Result<Replay, Fail> {
-    let inventory = inventory_of(alloc, TUNNEL)?;
     let mut replay = replay_at(alloc, "c1", None, 1)?;
-    replay.step(&inventory, &adapt(alloc)?)?;
-    replay.step(&inventory, &link(alloc)?)?;
-    replay.step(&inventory, &deadapt(alloc)?)?;
+    stepped(alloc, TUNNEL, &mut replay, &adapt(alloc)?)??;
+    stepped(alloc, TUNNEL, &mut replay, &link(alloc)?)??;
+    stepped(alloc, TUNNEL, &mut replay, &deadapt(alloc)?)??;
     Ok(replay)
 }
 
 #[test]
 fn refusals(rt: HostRuntime) -> Result<(), Fail> {
     let alloc = rt.alloc();
-    let full = stepped(alloc, TUNNEL, "c1", None, 0, &adapt(alloc)?)?;
+    let full = first_step(alloc, TUNNEL, "c1", None, 0, &adapt(alloc)?)?;
     assert_eq!(rt; full, Err(StepFault::Full));
-    let frame = stepped(alloc, TUNNEL, "s2", None, 1, &deadapt(alloc)?)?;
+    let frame = first_step(alloc, TUNNEL, "s2", None, 1, &deadapt(alloc)?)?;
     assert_eq!(rt; frame, Err(StepFault::Frame));
-    let no_hop = stepped(alloc, TUNNEL, "c1", None, 1, &link(alloc)?)?;
+    let no_hop = first_step(alloc, TUNNEL, "c1", None, 1, &link(alloc)?)?;
     assert_eq!(rt; no_hop, Err(StepFault::NoHop));
-    let label = stepped(alloc, VLAN, "p", Some(100), 0, &relabel(alloc)?)?;
+    let label = first_step(alloc, VLAN, "p", Some(100), 0, &relabel(alloc)?)?;
     assert_eq!(rt; label, Err(StepFault::Label));
     Ok(())
 }

@@ -1,5 +1,5 @@
 use Rattle.std.proofs.Common.{Err, Ok, subst}
-use Rattle.packet_replay.specs.declared.faults.StepFault.TheVariants.{NoHop, Label, Frame as NoFrame, Full, NoMemory}
+use Rattle.packet_replay.specs.declared.faults.StepFault.TheVariants.{Label, Frame as NoFrame, Full, NoMemory}
 use Rattle.packet_replay.specs.Carried.{Carried}
 use Rattle.packet_replay.specs.Conditions.{Fits, HasRoom, IsRefused}
 use Rattle.packet_replay.proofs.Refusing.{exactly, next_refused, next_taken}
