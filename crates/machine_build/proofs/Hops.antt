@@ -90,9 +90,9 @@ module _ (T : Topology) (none : duplicate_ids T ≡ []) (places : List PlaceName
     element = named;
     domain = of.same_domain;
     leaves = subst (λ id. IsPlace T id h.from_label of.passage.from_end.class) (sym of.same_from)
-      (subst (λ l. IsPlace T of.passage.p.id l of.passage.from_end.class) (sym of.from_label) (open_end T places opened (from_of (step_of m) (site_of m)) of.passage.p of.passage.leaves of.passage.from_end));
+        (subst (λ l. IsPlace T of.passage.p.id l of.passage.from_end.class) (sym of.from_label) (open_end T places opened (from_of (step_of m) (site_of m)) of.passage.p of.passage.leaves of.passage.from_end));
     enters = subst (λ id. IsPlace T id h.to_label of.passage.to_end.class) (sym of.same_to)
-      (subst (λ l. IsPlace T of.passage.q.id l of.passage.to_end.class) (sym of.to_label) (open_end T places opened (to_of (step_of m) (site_of m)) of.passage.q of.passage.enters of.passage.to_end));
+        (subst (λ l. IsPlace T of.passage.q.id l of.passage.to_end.class) (sym of.to_label) (open_end T places opened (to_of (step_of m) (site_of m)) of.passage.q of.passage.enters of.passage.to_end));
     before = record { same_class = of.passage.from_end.named; same_label = sym of.from_label };
     after = record { same_class = of.passage.to_end.named; same_label = sym of.to_label };
     rule = rule;
@@ -104,13 +104,13 @@ module _ (T : Topology) (none : duplicate_ids T ≡ []) (places : List PlaceName
       record {
         costs = costs;
         moves = subst (λ k. MovesBy T frames of.passage.leaves of.passage.enters h (step_of m).frame.0 k) (sym (kind_is m.effect.kind m ∙ of.kind_is))
-          (moved T frames h of.passage.from_end.class of.passage.to_end.class of.passage.p of.passage.q
-          (among_place (ports T) (site_of m).from.0 of.passage.p of.passage.from_end.port_at) (among_place (ports T) (site_of m).to.0 of.passage.q of.passage.to_end.port_at)
-          of.same_from of.same_to of.passage.leaves of.passage.enters of.placed.element (step_of m).frame.0 stepped of.same_kind
-          (subst (λ x. Passes T of.placed.element of.passage.p x of.passage.q h.to_label) (sym of.from_label)
-          (subst (λ y. Passes T of.placed.element of.passage.p of.passage.leaves.label of.passage.q y) (sym of.to_label) of.passage.passes))
-          (subst (λ x. IsFramedBy frames of.placed.element of.passage.from_end.class x of.passage.to_end.class h.to_label (step_of m).frame.0) (sym of.from_label)
-          (subst (λ y. IsFramedBy frames of.placed.element of.passage.from_end.class of.passage.leaves.label of.passage.to_end.class y (step_of m).frame.0) (sym of.to_label) of.passage.framed)));
+            (moved T frames h of.passage.from_end.class of.passage.to_end.class of.passage.p of.passage.q
+            (among_place (ports T) (site_of m).from.0 of.passage.p of.passage.from_end.port_at) (among_place (ports T) (site_of m).to.0 of.passage.q of.passage.to_end.port_at)
+            of.same_from of.same_to of.passage.leaves of.passage.enters of.placed.element (step_of m).frame.0 stepped of.same_kind
+            (subst (λ x. Passes T of.placed.element of.passage.p x of.passage.q h.to_label) (sym of.from_label)
+            (subst (λ y. Passes T of.placed.element of.passage.p of.passage.leaves.label of.passage.q y) (sym of.to_label) of.passage.passes))
+            (subst (λ x. IsFramedBy frames of.placed.element of.passage.from_end.class x of.passage.to_end.class h.to_label (step_of m).frame.0) (sym of.from_label)
+            (subst (λ y. IsFramedBy frames of.placed.element of.passage.from_end.class of.passage.leaves.label of.passage.to_end.class y (step_of m).frame.0) (sym of.to_label) of.passage.framed)));
       }
 
 module _ (T : Topology) (none : duplicate_ids T ≡ []) (places : List PlaceName) (rise : IsRising places) (opened : AreOpen T places) (frames : List Frame) (moves : List Move) (adds : AreMoves T places frames moves)
@@ -147,30 +147,32 @@ module _ (T : Topology) (none : duplicate_ids T ≡ []) (places : List PlaceName
       let way : IsWay T places (way_of m.0) = way_at k m.0 m.1 in
       let pa : Passage T places frames way.placed.element (from_of (step_of m.0) (site_of m.0)) (to_of (step_of m.0) (site_of m.0)) (step_of m.0).frame.0 = passage_there T places frames m.0 way (done_at k m.0 m.1) in
       let kind = makes_hops T way.placed.element pa.p pa.q pa.leaves.label pa.enters.label pa.passes in
-      let h : Hop = record { kind = kind.0; element = id_of way.placed.element; from = pa.p.id; from_label = pa.leaves.label; to = pa.q.id; to_label = pa.enters.label; domain = way.placed.domain.id } in
-      (h, record {
-        step = step_of m.0;
-        site = site_of m.0;
-        placed = way.placed;
-        from = pa.p;
-        to = pa.q;
-        leaves = pa.leaves;
-        enters = pa.enters;
-        step_at = step_there k m.0 m.1;
-        site_at = site_there k m.0 m.1;
-        element_at = subst (λ n. slice_get (elements_of T) n ≡ Some way.placed) (sym (site_element m.0.effect.kind m.0)) way.element_at;
-        from_at = pa.from_end.port_at;
-        to_at = pa.to_end.port_at;
-        leaves_at = pa.from_end.place_at;
-        enters_at = pa.to_end.place_at;
-        same_kind = kind.1;
-        same_element = refl;
-        same_from = refl;
-        from_label = refl;
-        same_to = refl;
-        to_label = refl;
-        same_domain = refl;
-      })
+      let h : Hop = record { kind = kind.0; element = id_of way.placed.element; from = pa.p.id; from_label = pa.leaves.label; to = pa.q.id; to_label = pa.enters.label; domain = way.placed.domain.id } in (
+        h,
+        record {
+          step = step_of m.0;
+          site = site_of m.0;
+          placed = way.placed;
+          from = pa.p;
+          to = pa.q;
+          leaves = pa.leaves;
+          enters = pa.enters;
+          step_at = step_there k m.0 m.1;
+          site_at = site_there k m.0 m.1;
+          element_at = subst (λ n. slice_get (elements_of T) n ≡ Some way.placed) (sym (site_element m.0.effect.kind m.0)) way.element_at;
+          from_at = pa.from_end.port_at;
+          to_at = pa.to_end.port_at;
+          leaves_at = pa.from_end.place_at;
+          enters_at = pa.to_end.place_at;
+          same_kind = kind.1;
+          same_element = refl;
+          same_from = refl;
+          from_label = refl;
+          same_to = refl;
+          to_label = refl;
+          same_domain = refl;
+        },
+      )
 
   -- what a hop at a place is of
   record Made (k : ℕ) (h : Hop) (hop : IsHopAt T b k h) : Type 0 where
@@ -242,7 +244,7 @@ module _ (T : Topology) (none : duplicate_ids T ≡ []) (places : List PlaceName
       let from_end : IsEnd T places from r.p x = record { class = st.from; port_at = i.1; is_class = subst (λ id. IsClass T id st.from) (sym r.p_id) st.leaves.is_class; place_at = x_at.1; named = st.before.same_class } in
       let to_end : IsEnd T places to r.q y = record { class = st.to; port_at = j.1; is_class = subst (λ id. IsClass T id st.to) (sym r.q_id) st.enters.is_class; place_at = y_at.1; named = st.after.same_class } in
       let passes : Passes T st.placed.element r.p x.label r.q y.label =
-          subst (λ l. Passes T st.placed.element r.p l r.q y.label) (sym st.before.same_label) (subst (λ l. Passes T st.placed.element r.p h.from_label r.q l) (sym st.after.same_label) r.passes) in
+      subst (λ l. Passes T st.placed.element r.p l r.q y.label) (sym st.before.same_label) (subst (λ l. Passes T st.placed.element r.p h.from_label r.q l) (sym st.after.same_label) r.passes) in
       let side : Sides T places frames st.placed.element (near_by (step_kind st.placed.element) from to) (far_by (step_kind st.placed.element) from to) = sides T places frames st.placed.element from to r.p r.q x y from_end to_end passes in
       let w : Way = record { element = e.0; near = near_by (step_kind st.placed.element) from to; far = far_by (step_kind st.placed.element) from to } in
       let way : HasWay moves w = has_way w (record { placed = st.placed; from = side.p; to = side.q; leaves = side.x; enters = side.y; element_at = e.1; near = side.near_end; far = side.far_end; from_near = side.at_near; to_far = side.at_far; taken = side.taken; lets = side.lets }) in
@@ -254,30 +256,34 @@ module _ (T : Topology) (none : duplicate_ids T ≡ []) (places : List PlaceName
       let near : m.near ≡ near_by m.effect.kind from to = ap (λ (v : Way). v.near) way.is ∙ ap (λ k. near_by k from to) (sym kind) in
       let far : m.far ≡ far_by m.effect.kind from to = ap (λ (v : Way). v.far) way.is ∙ ap (λ k. far_by k from to) (sym kind) in
       let f : from_of (step_of m) (site_of m) ≡ from = from_is m.effect.kind m from to near far in
-      let t : to_of (step_of m) (site_of m) ≡ to = to_is m.effect.kind m from to near far in
-      (way.place, record {
-        step = step_of m;
-        site = site_of m;
-        placed = st.placed;
-        from = r.p;
-        to = r.q;
-        leaves = x;
-        enters = y;
-        step_at = step_there way.place m way.at;
-        site_at = site_there way.place m way.at;
-        element_at = subst (λ n. slice_get (elements_of T) n ≡ Some st.placed) (sym (site_element m.effect.kind m ∙ number)) e.1;
-        from_at = subst (λ (v : End). slice_get (ports T) v.port.0 ≡ Some r.p) (sym f) i.1;
-        to_at = subst (λ (v : End). slice_get (ports T) v.port.0 ≡ Some r.q) (sym t) j.1;
-        leaves_at = subst (λ (v : End). slice_get places v.state.0 ≡ Some x) (sym f) x_at.1;
-        enters_at = subst (λ (v : End). slice_get places v.state.0 ≡ Some y) (sym t) y_at.1;
-        same_kind = r.is_kind;
-        same_element = element_id T h.element st.placed st.element;
-        same_from = sym r.p_id;
-        from_label = sym st.before.same_label;
-        same_to = sym r.q_id;
-        to_label = sym st.after.same_label;
-        same_domain = st.domain;
-      }, refl, refl)
+      let t : to_of (step_of m) (site_of m) ≡ to = to_is m.effect.kind m from to near far in (
+        way.place,
+        record {
+          step = step_of m;
+          site = site_of m;
+          placed = st.placed;
+          from = r.p;
+          to = r.q;
+          leaves = x;
+          enters = y;
+          step_at = step_there way.place m way.at;
+          site_at = site_there way.place m way.at;
+          element_at = subst (λ n. slice_get (elements_of T) n ≡ Some st.placed) (sym (site_element m.effect.kind m ∙ number)) e.1;
+          from_at = subst (λ (v : End). slice_get (ports T) v.port.0 ≡ Some r.p) (sym f) i.1;
+          to_at = subst (λ (v : End). slice_get (ports T) v.port.0 ≡ Some r.q) (sym t) j.1;
+          leaves_at = subst (λ (v : End). slice_get places v.state.0 ≡ Some x) (sym f) x_at.1;
+          enters_at = subst (λ (v : End). slice_get places v.state.0 ≡ Some y) (sym t) y_at.1;
+          same_kind = r.is_kind;
+          same_element = element_id T h.element st.placed st.element;
+          same_from = sym r.p_id;
+          from_label = sym st.before.same_label;
+          same_to = sym r.q_id;
+          to_label = sym st.after.same_label;
+          same_domain = st.domain;
+        },
+        refl,
+        refl,
+      )
 
   -- and of one alone
 
@@ -300,12 +306,12 @@ module _ (T : Topology) (none : duplicate_ids T ≡ []) (places : List PlaceName
       let placed : f.of.placed ≡ g.of.placed = same_at (elements_of T) n.element f.of.placed g.of.placed (subst (λ i. slice_get (elements_of T) i ≡ Some f.of.placed) number f.of.element_at) g.of.element_at in
       let kind : m.effect.kind ≡ n.effect.kind = f.of.kind_is ∙ ap (λ (p : Placed). step_kind p.element) placed ∙ sym g.of.kind_is in
       let from : from_of (step_of m) (site_of m) ≡ from_of (step_of n) (site_of n) = same_end (from_of (step_of m) (site_of m)) (from_of (step_of n) (site_of n)) f.of.passage.p g.of.passage.p f.of.passage.leaves g.of.passage.leaves f.of.passage.from_end g.of.passage.from_end
-          (sym f.of.same_from ∙ g.of.same_from) (sym f.of.from_label ∙ g.of.from_label) in
+      (sym f.of.same_from ∙ g.of.same_from) (sym f.of.from_label ∙ g.of.from_label) in
       let to : to_of (step_of m) (site_of m) ≡ to_of (step_of n) (site_of n) = same_end (to_of (step_of m) (site_of m)) (to_of (step_of n) (site_of n)) f.of.passage.q g.of.passage.q f.of.passage.enters g.of.passage.enters f.of.passage.to_end g.of.passage.to_end
-          (sym f.of.same_to ∙ g.of.same_to) (sym f.of.to_label ∙ g.of.to_label) in
+      (sym f.of.same_to ∙ g.of.same_to) (sym f.of.to_label ∙ g.of.to_label) in
       let near : m.near ≡ n.near = near_is m.effect.kind m ∙ ap (λ i. near_by i (from_of (step_of m) (site_of m)) (to_of (step_of m) (site_of m))) kind
-          ∙ ap (λ v. near_by n.effect.kind v (to_of (step_of m) (site_of m))) from ∙ ap (λ v. near_by n.effect.kind (from_of (step_of n) (site_of n)) v) to ∙ sym (near_is n.effect.kind n) in
+      ∙ ap (λ v. near_by n.effect.kind v (to_of (step_of m) (site_of m))) from ∙ ap (λ v. near_by n.effect.kind (from_of (step_of n) (site_of n)) v) to ∙ sym (near_is n.effect.kind n) in
       let far : m.far ≡ n.far = far_is m.effect.kind m ∙ ap (λ i. far_by i (from_of (step_of m) (site_of m)) (to_of (step_of m) (site_of m))) kind
-          ∙ ap (λ v. far_by n.effect.kind v (to_of (step_of m) (site_of m))) from ∙ ap (λ v. far_by n.effect.kind (from_of (step_of n) (site_of n)) v) to ∙ sym (far_is n.effect.kind n) in
+      ∙ ap (λ v. far_by n.effect.kind v (to_of (step_of m) (site_of m))) from ∙ ap (λ v. far_by n.effect.kind (from_of (step_of n) (site_of n)) v) to ∙ sym (far_is n.effect.kind n) in
       let make : ℕ → End → End → Way = λ i v w. record { element = i; near = v; far = w } in
       way_once j k m n f.at g.at (ap (λ i. make i m.near m.far) number ∙ ap (λ v. make n.element v m.far) near ∙ ap (λ w. make n.element n.near w) far)
