@@ -2,7 +2,7 @@
 --   labels_in      the kept labels of a label type
 --   keeping_of     each label in the place of its keeper
 --   IsKeptTable    the table is that of a topology and a request
-use Rattle.std.specs.Prelude.{◌≡◌, ◌⊎◌, ◌↔◌, ℕ, List, [], ◌∷◌, false, IsTrue, Option, None, Some, option_map, unwrap_or, find, map}
+use Rattle.std.specs.Prelude.{◌≡◌, ◌⊎◌, ◌↔◌, ℕ, List, [], ◌∷◌, false, IsTrue, Option, option_and_then, option_map, unwrap_or, find, map}
 use Rattle.std.specs.Str.{bytes_eq}
 use Rattle.nml_elements.specs.declared.elements.LinkE.{LinkE}
 use Rattle.label_atoms.specs.Alike.{Climbing, KeptLabels, keeper_of}
@@ -28,10 +28,7 @@ labels_in table labeltype = unwrap_or (option_map (λ (row : KeptOfType). row.ke
 -- each label in the place of its keeper, where it has one
 abbrev pub keeping_of : List KeptOfType → Keeping
 keeping_of table labeltype label =
-    unwrap_or (keeper_found (row_of_type table labeltype)) label where
-      keeper_found : Option KeptOfType → Option ℕ
-      keeper_found None = None
-      keeper_found (Some row) = keeper_of row.kept label
+    unwrap_or (option_and_then (λ (row : KeptOfType). keeper_of row.kept label) (row_of_type table labeltype)) label
 
 -- the label types of a table, in its order
 abbrev pub types_in : List KeptOfType → List Name

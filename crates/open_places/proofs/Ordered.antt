@@ -1,9 +1,12 @@
 -- Lists in strict order: how the items stand to each other, and to what an order is told by.
-use Rattle.std.proofs.Common.{◌≡◌, ◌∙◌, refl, sym, ap, subst, ℕ, zero, suc, ◌+◌, ◌<◌, ◌≤◌, List, [], ◌∷◌, length, get_or, Bool, true, false, Option, None, Some, arith, Ordering, Less, Equal, Greater}
-use Rattle.std.specs.Prelude.{nat_eq, nat_lt}
+use Rattle.std.proofs.Common.{◌≡◌, ◌∙◌, refl, sym, ap, subst, ℕ, zero, suc, ◌<◌, ◌≤◌, List, [], ◌∷◌, length, get_or, Bool, true, false, None, Some, arith, Ordering, Less, Equal, Greater}
+use Rattle.std.specs.Prelude.{nat_lt, slice_get, ◌||◌, ◌&&◌}
+use Rattle.std.specs.Str.{bytes_eq}
+use Rattle.std.proofs.lemmas.Map.Text.{is_eq-slice_cmp}
+use Rattle.std.proofs.lemmas.Option.{get_or_from_slice_get, slice_get_within}
 use Rattle.std.specs.List.{AllByRecursion}
 use Rattle.std.specs.List.Sorted.{IsStrictlySortedBy, IsNonDecreasingBy}
-use Rattle.std.specs.Ordering.{nat_cmp, ordering_index, ordering_then}
+use Rattle.std.specs.Ordering.{nat_cmp, ordering_index, ordering_then, is_lt, is_eq}
 use Rattle.std.specs.Cmp.{IsTotalOrder}
 use Rattle.std.specs.Cmp.Lexicographic.{slice_cmp, nat_list_cmp_total, on_texts, options_total}
 use Rattle.std.specs.Option.{option_cmp}
@@ -12,7 +15,7 @@ use Rattle.std.proofs.lemmas.Bool.Decides.{nat_tests}
 use Rattle.std.proofs.lemmas.Map.Lookups.{CmpEqualImpliesEq, exact_bytes, exact_unsigned}
 use Rattle.circuit_spec.specs.declared.hops.PlaceName.{PlaceName}
 use Rattle.circuit_spec.specs.Network.{Name, Tag}
-use Rattle.open_places.specs.Places.{place_cmp}
+use Rattle.open_places.specs.Places.{place_cmp, IsRising}
 
 all_at : {K : Type 0} (P : K → Type 0) (xs : List K) (i : ℕ) (d : K) → AllByRecursion P xs → i < length xs → P (get_or xs i d)
 all_at P [] i d a h = absurd (omega arith)
@@ -27,6 +30,22 @@ below_at R (x ∷ xs) i zero d s lt h = absurd (omega arith)
 below_at R (x ∷ xs) zero (suc j) d s lt h = all_at (λ y. R x y ≡ Less) xs j d s.0 (omega (arith, h))
 below_at R (x ∷ xs) (suc i) (suc j) d s lt h = below_at R xs i j d s.1 (omega (arith, lt)) (omega (arith, h))
 
+-- an item stands once
+pub once : {K : Type 0} {R : K → K → Ordering} (o : IsTotalOrder R) (xs : List K) (i j : ℕ) (x : K) → IsStrictlySortedBy R xs → slice_get xs i ≡ Some x → slice_get xs j ≡ Some x → i ≡ j
+once {K = K} {R = R} o xs i j x s ati atj = by_tests (nat_lt i j) refl (nat_lt j i) refl
+  where
+    apart : (m n : ℕ) → slice_get xs m ≡ Some x → slice_get xs n ≡ Some x → m < n → Less ≡ Equal
+    apart m n atm atn lt =
+        sym (below_at R xs m n x s lt (slice_get_within xs n x atn))
+        ∙ ap (λ (y : K). R y (get_or xs n x)) (get_or_from_slice_get xs m x x atm)
+        ∙ ap (R x) (get_or_from_slice_get xs n x x atn)
+        ∙ tied_itself o x
+
+    by_tests : (t : Bool) → nat_lt i j ≡ t → (u : Bool) → nat_lt j i ≡ u → i ≡ j
+    by_tests true e u f = (let differ : Less ≡ Equal = apart i j ati atj (grind (arith, nat_tests)) in absurd cc)
+    by_tests false e true f = (let differ : Less ≡ Equal = apart j i atj ati (grind (arith, nat_tests)) in absurd cc)
+    by_tests false e false f = grind (arith, nat_tests)
+
 -- what does not fall from a lesser item to a greater one does not fall along the list
 pub rises : {K : Type 0} (R : K → K → Ordering) (f : K → ℕ) (xs : List K) → ((i j : ℕ) (d : K) → i < j → j < length xs → f (get_or xs i d) ≤ f (get_or xs j d)) → IsNonDecreasingBy f xs
 rises R f xs up i j d le h = by_test (nat_lt i j) refl
@@ -37,7 +56,7 @@ rises R f xs up i j d le h = by_test (nat_lt i j) refl
         let same : i ≡ j = grind (arith, nat_tests) in
         subst (λ (k : ℕ). f (get_or xs i d) ≤ f (get_or xs k d)) same (omega arith)
 
-rank_cases : (p q : Ordering) → (q ≡ Less → p ≡ Less) → (q ≡ Equal → p ≡ Less) → ordering_index p ≤ ordering_index q
+pub rank_cases : (p q : Ordering) → (q ≡ Less → p ≡ Less) → (q ≡ Equal → p ≡ Less) → ordering_index p ≤ ordering_index q
 rank_cases p Less l e = subst (λ (o : Ordering). ordering_index o ≤ ordering_index Less) (sym (l refl)) (omega arith)
 rank_cases p Equal l e = subst (λ (o : Ordering). ordering_index o ≤ ordering_index Equal) (sym (e refl)) (omega arith)
 rank_cases Less Greater l e = omega arith
@@ -87,3 +106,22 @@ pub labels_below : (a b : PlaceName) → place_cmp a b ≡ Less → a.class ≡ 
 labels_below a b lt same =
     then_less (slice_cmp nat_cmp a.class b.class) (option_cmp nat_cmp a.label b.label) lt
     (ap (slice_cmp nat_cmp a.class) (sym same) ∙ tied_itself nat_list_cmp_total a.class)
+
+-- the lesser of two places has no greater class
+pub first_below : (a b : PlaceName) → place_cmp a b ≡ Less → ordering_index (slice_cmp nat_cmp a.class b.class) ≤ 1
+first_below a b lt = then_first (slice_cmp nat_cmp a.class b.class) (option_cmp nat_cmp a.label b.label) lt
+
+-- two states of one place are one
+pub states_once : (places : List PlaceName) (i j : ℕ) (place : PlaceName) → IsRising places → slice_get places i ≡ Some place → slice_get places j ≡ Some place → i ≡ j
+states_once places i j place rise ati atj = once place_total places i j place rise ati atj
+
+then_below : (p q : Ordering) → is_lt (ordering_then p q) ≡ (is_lt p || (is_eq p && is_lt q))
+then_below Less q = refl
+then_below Equal q = refl
+then_below Greater q = refl
+
+-- a place is before another one by its class, or by its label where the classes are equal
+pub place_below : (a b : PlaceName) → is_lt (place_cmp a b) ≡ (is_lt (slice_cmp nat_cmp a.class b.class) || (bytes_eq a.class b.class && is_lt (option_cmp nat_cmp a.label b.label)))
+place_below a b =
+    then_below (slice_cmp nat_cmp a.class b.class) (option_cmp nat_cmp a.label b.label)
+    ∙ ap (λ (t : Bool). is_lt (slice_cmp nat_cmp a.class b.class) || (t && is_lt (option_cmp nat_cmp a.label b.label))) (is_eq-slice_cmp a.class b.class)

@@ -1,8 +1,8 @@
 -- What binary searches in rising places find.
-use Rattle.std.proofs.Common.{◌≡◌, ◌∙◌, refl, sym, ap, subst, ℕ, zero, suc, ◌+◌, ◌-◌, ◌<◌, ◌≤◌, List, [], ◌∷◌, length, get_or, Bool, true, false, Option, None, Some, arith, Ordering, Less, Equal, Greater}
-use Rattle.std.specs.Prelude.{slice_get, nat_lt, slice_range, take, drop}
+use Rattle.std.proofs.Common.{◌≡◌, ◌∙◌, refl, sym, ap, ℕ, ◌+◌, ◌-◌, ◌<◌, ◌≤◌, List, length, get_or, Bool, true, false, Some, arith, Ordering, Less, Equal, Greater}
+use Rattle.std.specs.Prelude.{slice_get, nat_lt, slice_range, drop}
 use Rattle.std.specs.List.{Contains, HoldsAt}
-use Rattle.std.specs.List.Sorted.{IsStrictlySortedBy, IsNonDecreasingBy, IsPartitionPoint}
+use Rattle.std.specs.List.Sorted.{IsNonDecreasingBy, IsPartitionPoint}
 use Rattle.std.specs.Ordering.{nat_cmp, ordering_index}
 use Rattle.std.specs.Option.{option_cmp}
 use Rattle.std.specs.Cmp.Lexicographic.{options_total}
@@ -11,10 +11,10 @@ use Rattle.std.proofs.lemmas.Cmp.{nat_cmp_total, tied_itself}
 use Rattle.std.proofs.lemmas.Bool.Decides.{nat_tests}
 use Rattle.std.proofs.lemmas.Option.{slice_get-get_or, get_or_from_slice_get}
 use Rattle.circuit_spec.specs.declared.hops.PlaceName.{PlaceName}
-use Rattle.circuit_spec.specs.Network.{Tag}
+use Rattle.circuit_spec.specs.Network.{Name, Tag}
 use Rattle.open_places.specs.declared.span.Span.{Span}
 use Rattle.open_places.specs.Places.{PlacesValue, place_cmp, IsRising}
-use Rattle.open_places.specs.Spans.{IsSpan, IsLabelled}
+use Rattle.open_places.specs.Spans.{IsClassSpan, IsLabelled}
 use Rattle.open_places.proofs.Ordered.{below_at, rises, rank_below, place_total, exact_places, exact_tags, labels_below}
 
 -- the place that a search finds
@@ -53,12 +53,12 @@ part_long xs a b ab h = length-take-le (b - a) (drop a xs) (omega (arith, length
 abbrev pub by_label : Tag → PlaceName → Ordering
 by_label label y = option_cmp nat_cmp y.label label
 
-pub label_found : (v : PlacesValue) (span : Span) (label : Tag) (states : List PlaceName) (k : ℕ) → IsSpan v.places span → states ≡ slice_range v.places span.first span.end
+pub label_found : (v : PlacesValue) (span : Span) (label : Tag) (states : List PlaceName) (k : ℕ) (class : Name) → IsClassSpan v.places class span → states ≡ slice_range v.places span.first span.end
     → k < length states → HoldsAt (λ (y : PlaceName). by_label label y ≡ Equal) states k → IsLabelled v span label (span.first + k)
-label_found v span label states k is part h at =
+label_found v span label states k class is part h at =
     let long : length states ≡ span.end - span.first = ap length part ∙ part_long v.places span.first span.end is.proper is.within in
     let within : span.first + k < span.end = omega arith in
-    let d : PlaceName = record { class = is.class; label = label } in
+    let d : PlaceName = record { class = class; label = label } in
     record {
       first = omega arith;
       end = within;
@@ -67,10 +67,10 @@ label_found v span label states k is part h at =
       labelled = exact_tags _ label (ap (by_label label) (sym (ap (λ (xs : List PlaceName). get_or xs k d) part ∙ part_at v.places span.first span.end k d within)) ∙ at d);
     }
 
-pub label_missed : (v : PlacesValue) (span : Span) (label : Tag) (states : List PlaceName) (i : ℕ) → IsRising v.places → IsSpan v.places span → states ≡ slice_range v.places span.first span.end
+pub label_missed : (v : PlacesValue) (span : Span) (label : Tag) (states : List PlaceName) (i : ℕ) (class : Name) → IsRising v.places → IsClassSpan v.places class span → states ≡ slice_range v.places span.first span.end
     → (IsNonDecreasingBy (λ (y : PlaceName). ordering_index (by_label label y)) states → IsPartitionPoint (λ (y : PlaceName). by_label label y ≡ Less) (λ (y : PlaceName). by_label label y ≡ Greater) states i)
     → (state : ℕ) → IsLabelled v span label state → ⊥
-label_missed v span label states i rise is part parted state has =
+label_missed v span label states i class rise is part parted state has =
     none_met (by_label label) states i (state - span.first) has.place (parted (rises place_cmp (λ (y : PlaceName). ordering_index (by_label label y)) states up)) (omega (arith, long, has.first, has.end)) met
   where
     long : length states ≡ span.end - span.first
@@ -79,10 +79,10 @@ label_missed v span label states i rise is part parted state has =
     read : (k : ℕ) (d : PlaceName) → span.first + k < span.end → get_or states k d ≡ get_or v.places (span.first + k) d
     read k d h = ap (λ (xs : List PlaceName). get_or xs k d) part ∙ part_at v.places span.first span.end k d h
 
-    class_at : (k : ℕ) (d : PlaceName) → span.first + k < span.end → (get_or states k d).class ≡ is.class
+    class_at : (k : ℕ) (d : PlaceName) → span.first + k < span.end → (get_or states k d).class ≡ class
     class_at k d h =
-        is.of_class (span.first + k) (get_or states k d) (omega arith) h
-        (slice_get-get_or v.places (span.first + k) d (omega (arith, is.within)) ∙ ap Some (sym (read k d h)))
+        let there : slice_get v.places (span.first + k) ≡ Some (get_or states k d) = slice_get-get_or v.places (span.first + k) d (omega (arith, is.within)) ∙ ap Some (sym (read k d h)) in
+        (is.of_class (span.first + k) (get_or states k d) there).1 (omega arith, h)
 
     up : (m n : ℕ) (d : PlaceName) → m < n → n < length states → ordering_index (by_label label (get_or states m d)) ≤ ordering_index (by_label label (get_or states n d))
     up m n d lt h =

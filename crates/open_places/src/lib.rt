@@ -2,9 +2,14 @@
 #![tactic(auto)]
 
 mod gathering;
+mod opening;
 mod places;
 mod span;
+mod spanning;
 
-pub use gathering::open_places;
+pub use opening::open_places;
 pub use places::Places;
 pub use span::Span;
+
+#[cfg(test)]
+mod tests;

@@ -1,6 +1,6 @@
 ghost use Rattle.std.specs.Prelude.{◌≡◌, ◌<◌, ◌≤◌, ℕ, Some, MatchOption, length, slice_get, slice_range};
 ghost use Rattle.std.specs.List.{Contains};
-ghost use Rattle.open_places.specs.Spans.{IsLabelled, IsSpanOf};
+ghost use Rattle.open_places.specs.Spans.{AreStates, IsLabelled, IsSpanOf};
 
 use crate::span::Span;
 use circuit_spec::PlaceName;
@@ -26,6 +26,14 @@ impl Model for Places {
 }
 
 impl Places {
+    /// The states, with the span of each port's class.
+    pub(crate) fn new(places: Vec<PlaceName>, spans: Vec<Span>) -> Places
+        requires { AreStates places.items spans.items }
+        ensures { result ≡ record { places = places.items; spans = spans.items } }
+    {
+        Places { places, spans }
+    }
+
     /// How many states there are.
     pub fn len(&self) -> u64
         ensures { result ≡ length self.now.places }
