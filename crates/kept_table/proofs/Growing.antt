@@ -1,6 +1,6 @@
 -- What is gathered grows by the sets of classes and of links and by stated labels.
-use Rattle.std.proofs.Common.{◌≡◌, ◌<◌, ◌+◌, ◌⊎◌, ◌↔◌, ℕ, zero, suc, inl, inr, List, [], ◌∷◌, ◌++◌, Bool, true, false, ◌||◌, cond, Option, None, Some, refl, sym, ◌∙◌, ap, subst, arith}
-use Rattle.std.specs.Prelude.{slice_get, option_map, unwrap_or}
+use Rattle.std.proofs.Common.{◌≡◌, ◌<◌, ◌+◌, ◌⊎◌, ◌↔◌, ℕ, inl, inr, List, [], ◌∷◌, ◌++◌, Bool, true, false, ◌||◌, cond, Option, None, Some, refl, sym, ◌∙◌, ap, subst, arith}
+use Rattle.std.specs.Prelude.{slice_get}
 use Rattle.std.specs.Option.{MatchOption, option_and_then}
 use Rattle.std.specs.Str.{bytes_eq}
 use Rattle.std.proofs.lemmas.Bool.{cases_lt, or_cases}
@@ -14,7 +14,7 @@ use Rattle.nml_elements.specs.declared.elements.LinkE.{LinkE}
 use Rattle.nml_elements.specs.Labels.{is_among}
 use Rattle.circuit_spec.specs.declared.hops.Request.{Request}
 use Rattle.circuit_spec.specs.Network.{Name, Topology, Placed, Port, IsClass, IsInClassSet, elements_of, label_type, names, ports}
-use Rattle.circuit_spec.specs.Kept.{IsClassOfType, IsLinkOfType, IsStated, StatesAt, link_at, links}
+use Rattle.circuit_spec.specs.Kept.{IsStated, StatesAt, link_at, links}
 use Rattle.circuit_spec.proofs.Among.{IsAmong as IsItem}
 use Rattle.circuit_spec.proofs.Lists.{among_filter_map, contains_among}
 use Rattle.circuit_spec.proofs.ClassLemmas.{class_of_itself}

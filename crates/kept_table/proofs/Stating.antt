@@ -1,12 +1,11 @@
 -- The label that a request states at an end.
-use Rattle.std.proofs.Common.{◌≡◌, ℕ, inl, inr, List, [], ◌∷◌, Option, None, Some, refl, sym, ◌∙◌, ap, subst}
+use Rattle.std.proofs.Common.{◌≡◌, ℕ, inl, inr, List, Option, None, Some, refl, sym, ◌∙◌, ap, subst}
 use Rattle.std.specs.Prelude.{option_map, slice_get}
 use Rattle.ml_base.specs.declared.numbers.PortNo.{PortNo}
 use Rattle.ml_base.specs.declared.numbers.Wish.{Wish}
 use Rattle.ml_base.specs.declared.numbers.Wish.TheVariants.{Value}
 use Rattle.nml_elements.specs.declared.elements.Labels.{Labels}
 use Rattle.circuit_spec.specs.Network.{Name, Topology, Port, IsClass, label_type, ports}
-use Rattle.circuit_spec.specs.Kept.{StatesAt}
 use Rattle.nml_inventory.specs.Numbers.{port_number}
 use Rattle.nml_inventory.specs.Relations.{AreClassLabels}
 use Rattle.nml_inventory.proofs.ClassNumbers.{port_id}

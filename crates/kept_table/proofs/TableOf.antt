@@ -1,5 +1,5 @@
 -- The rows of what is gathered are the table of the kept labels.
-use Rattle.std.proofs.Common.{◌≡◌, ◌↔◌, ℕ, zero, suc, inl, inr, List, [], ◌∷◌, ◌++◌, Bool, true, false, ◌||◌, cond, Option, None, Some, map, take, refl, sym, ◌∙◌, ap, subst, arith}
+use Rattle.std.proofs.Common.{◌≡◌, ◌↔◌, ℕ, inl, inr, List, [], ◌∷◌, ◌++◌, Bool, true, false, ◌||◌, cond, Option, None, Some, map, refl, sym, ◌∙◌, ap, subst}
 use Rattle.std.specs.Prelude.{option_map, unwrap_or}
 use Rattle.std.specs.Option.{MatchOption, option_and_then}
 use Rattle.std.specs.List.{AllByRecursion, find}
@@ -13,9 +13,9 @@ use Rattle.circuit_spec.specs.Kept.{IsInSomeSet, IsKept, IsKeeper}
 use Rattle.nml_inventory.proofs.Gets.{map_twice}
 use Rattle.kept_table.specs.declared.gathered.TypeTests.{TypeTests}
 use Rattle.kept_table.specs.declared.table.KeptRow.{KeptRow}
-use Rattle.kept_table.specs.Table.{AreOnce, IsKeptTable, IsTypeOfSome, KeptOfType, keeping_of, labels_in, row_of_type, types_in}
+use Rattle.kept_table.specs.Table.{AreOnce, IsKeptTable, IsTypeOfSome, KeptOfType, row_of_type, types_in}
 use Rattle.kept_table.specs.Rows.{AreRows, AreRowsOf, IsRowOf, IsTableOf, row_of}
-use Rattle.kept_table.specs.Gathering.{AreByType, is_type, sets_of, singles_of, types_of}
+use Rattle.kept_table.specs.Gathering.{is_type, sets_of, singles_of, types_of}
 use Rattle.kept_table.proofs.Lookup.{row_found, row_type}
 use Rattle.kept_table.proofs.Telling.{IsAll, class_set, kept_from_spec, kept_to, keeper_to, link_set, some_from}
 

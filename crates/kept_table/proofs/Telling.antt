@@ -1,6 +1,6 @@
 -- What is gathered of a label type tells labels apart just as the classes, the links and the request do.
-use Rattle.std.proofs.Common.{◌≡◌, ◌<◌, ◌≤◌, ◌⊎◌, ◌↔◌, ℕ, zero, suc, inl, inr, List, [], ◌∷◌, Bool, true, false, ◌||◌, cond, Option, None, Some, length, eqb, refl, sym, ◌∙◌, ap, subst, arith}
-use Rattle.std.specs.Prelude.{Contains, slice_get}
+use Rattle.std.proofs.Common.{◌≡◌, ◌↔◌, ℕ, zero, suc, inl, inr, List, [], ◌∷◌, Bool, true, false, Option, None, Some, length, eqb, refl, sym, ◌∙◌, ap, subst, arith}
+use Rattle.std.specs.Prelude.{slice_get}
 use Rattle.std.specs.Option.{option_and_then}
 use Rattle.std.specs.List.{AllByRecursion, filter_map, cons_option, list_any}
 use Rattle.std.proofs.lemmas.Bool.{eq-eqb, eqb-true, or_cases, or_left, or_right}
@@ -12,11 +12,10 @@ use Rattle.label_atoms.specs.Pieces.{IsAmong}
 use Rattle.nml_elements.specs.declared.elements.LinkE.{LinkE}
 use Rattle.nml_elements.specs.Labels.{is_among}
 use Rattle.circuit_spec.specs.declared.hops.Request.{Request}
-use Rattle.circuit_spec.specs.Network.{Name, Topology, Placed, Port, First, IsClass, IsInClassSet, Linked, elements_of, ports}
+use Rattle.circuit_spec.specs.Network.{Name, Topology, Placed, Port, First, IsInClassSet, Linked, elements_of, ports}
 use Rattle.circuit_spec.specs.Kept.{AreAlike, IsClassOfType, IsInSomeSet, IsKept, IsKeeper, IsLinkOfType, IsStated, link_at, links}
-use Rattle.nml_inventory.proofs.Gets.{one_of_some}
 use Rattle.kept_table.specs.declared.gathered.TypeTests.{TypeTests}
-use Rattle.kept_table.specs.Gathering.{HasSet, IsGathered, IsSetOfType, link_numbered, sets_of, singles_of}
+use Rattle.kept_table.specs.Gathering.{HasSet, IsGathered, IsSetOfType, sets_of, singles_of}
 
 -- all is gathered
 abbrev pub IsAll : Topology → Request → List TypeTests → Type 0

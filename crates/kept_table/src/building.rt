@@ -12,7 +12,10 @@ use ml_base::NoMemory;
 use nml_inventory::Inventory;
 use std::alloc::Global;
 
-/// The kept labels of each label type of a sound topology, for a request that it knows.
+/// The kept labels of each label type of a sound topology, for a request that it knows. Its label types are those of the classes
+/// and the links.
+///
+/// Errors: want of memory.
 pub fn kept_of(
     alloc: Global,
     inventory: &Inventory,

@@ -61,7 +61,7 @@ module _ (T : Topology) (places : List PlaceName) (c : Crossing) where
       → Adds (Between span.first state (ToState port)) (λ m. m.effect ≡ c.effect) old new → Adds (λ w. GoesFrom T places c w × (w.far.port ≡ port)) (λ m. m.effect ≡ c.effect) old new
   far_port_whole port span state old new fit past within a = adds_same (Between span.first state (ToState port)) (λ w. GoesFrom T places c w × (w.far.port ≡ port)) (λ m. m.effect ≡ c.effect) (λ m. m.effect ≡ c.effect) old new a
       (λ w u. let b = in_span T places port c.any c.label span fit w.far u.1 u.0.far.port u.0.far.place u.0.far.is_end u.0.far.lets in
-          (w.far.state.0, b.0, omega (arith, b.1, past), (u.0.same_element, u.0.same_near, end_is T places port c.any c.label span fit w.far u.1)))
+      (w.far.state.0, b.0, omega (arith, b.1, past), (u.0.same_element, u.0.same_near, end_is T places port c.any c.label span fit w.far u.1)))
       (λ w r. (
         goes_far w (record { port = port; state = record { 0 = r.0 } }) r.3.0 r.3.1 r.3.2 (end_in T places port c.any c.label span fit r.0 r.1 (omega (arith, r.2, within))),
         ap (λ (e : End). e.port) r.3.2,
@@ -89,7 +89,7 @@ module _ (T : Topology) (places : List PlaceName) (c : Crossing) where
         → Adds (λ w. GoesFrom T places c w × IsFarPort T c.element w.far.port.0) (λ m. m.effect ≡ c.effect) old new
     far_side_whole n old new long a = adds_same (Between 0 n ToPort) (λ w. GoesFrom T places c w × IsFarPort T c.element w.far.port.0) (λ m. m.effect ≡ c.effect) (λ m. m.effect ≡ c.effect) old new a
         (λ w u. let j = at_listed T (is_far T) c.element ports_found listed w.far.port u.1.placed u.1.p u.1.element_at u.1.port_at u.1.far in
-            (j.0, omega arith, let l = slice_get_within ports_found j.0 w.far.port j.1 in omega (arith, l, long), (u.0, j.1)))
+        (j.0, omega arith, let l = slice_get_within ports_found j.0 w.far.port j.1 in omega (arith, l, long), (u.0, j.1)))
         (λ w r. let l = listed_at T (is_far T) c.element ports_found listed r.0 w.far.port r.3.1 in
-            (r.3.0, record { placed = l.0; p = l.1; element_at = l.2; port_at = l.3; far = l.4 }))
+        (r.3.0, record { placed = l.0; p = l.1; element_at = l.2; port_at = l.3; far = l.4 }))
         (λ m r s. s)

@@ -24,7 +24,7 @@ same_cmp x = (eq_by_cmp_equiv place_total).refl x
 pub one_state : (places : List PlaceName) → IsRising places → (i j : ℕ) (x : PlaceName) → slice_get places i ≡ Some x → slice_get places j ≡ Some x → i ≡ j
 one_state places rise i j x at_i at_j = distinct_once (eq_by_cmp place_cmp) same_cmp places (IsDistinct-from_sorted place_cmp places rise) i j x at_i at_j
 
-same_place : (a b : PlaceName) → a.class ≡ b.class → a.label ≡ b.label → a ≡ b
+pub same_place : (a b : PlaceName) → a.class ≡ b.class → a.label ≡ b.label → a ≡ b
 same_place a b classes labels =
     let make : Name → Tag → PlaceName = λ x y. record { class = x; label = y } in
     ap (λ x. make x a.label) classes ∙ ap (λ y. make b.class y) labels

@@ -4,3 +4,9 @@ pub mod Fitting
 pub mod Listed
 pub mod Crossed
 pub mod Passed
+pub mod Named
+pub mod Passages
+pub mod Chosen
+pub mod Told
+pub mod Hops
+pub mod Together

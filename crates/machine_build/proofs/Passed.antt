@@ -131,8 +131,8 @@ module _ (T : Topology) (places : List PlaceName) (number : ℕ) (near : End) (i
       element_at = subst (λ k. slice_get (elements_of T) k ≡ Some is.near.placed) (sym g.same_element) is.near.element_at;
       place_at = subst (λ (x : End). slice_get places x.state.0 ≡ Some is.place) (sym g.same_near) is.is_end.place_at;
       effect = subst (λ x. IsEffect T frames is.near.placed.element m.near.port.0 is.place.label x) (sym same)
-        (subst (λ (x : End). IsEffect T frames is.near.placed.element x.port.0 is.place.label effect) (sym g.same_near)
-        (subst (λ x. IsEffect T frames is.near.placed.element near.port.0 x effect) label_is (subst (λ x. IsEffect T frames x near.port.0 label effect) element_is does)));
+          (subst (λ (x : End). IsEffect T frames is.near.placed.element x.port.0 is.place.label effect) (sym g.same_near)
+          (subst (λ x. IsEffect T frames is.near.placed.element near.port.0 x effect) label_is (subst (λ x. IsEffect T frames x near.port.0 label effect) element_is does)));
     }
 
     pub near_end_whole : (old new : List Move) → Adds (λ w. GoesFrom T places here w × IsFarPort T number w.far.port.0) (λ m. m.effect ≡ effect) old new
@@ -162,7 +162,7 @@ module _ (T : Topology) (places : List PlaceName) (number : ℕ) where
       → Adds (Between span.first state (FromState port)) (IsDone T places frames) old new → Adds (λ w. IsWay T places w × (w.element ≡ number) × (w.near.port ≡ port)) (IsDone T places frames) old new
   near_port_whole port span state frames old new fit past a = adds_same (Between span.first state (FromState port)) (λ w. IsWay T places w × (w.element ≡ number) × (w.near.port ≡ port)) (IsDone T places frames) (IsDone T places frames) old new a
       (λ w u. let b = in_span T places port true None span fit w.near u.2 u.0.from u.0.leaves u.0.near (inl refl) in
-          (w.near.state.0, b.0, omega (arith, b.1, past), (u.0, u.1, end_is T places port true None span fit w.near u.2)))
+      (w.near.state.0, b.0, omega (arith, b.1, past), (u.0, u.1, end_is T places port true None span fit w.near u.2)))
       (λ w r. (r.3.0, r.3.1, ap (λ (e : End). e.port) r.3.2))
       (λ m r s. s)
 
@@ -188,7 +188,7 @@ module _ (T : Topology) (places : List PlaceName) (number : ℕ) where
         → Adds (λ w. IsWay T places w × (w.element ≡ number)) (IsDone T places frames) old new
     element_whole n frames old new long a = adds_same (Between 0 n FromPort) (λ w. IsWay T places w × (w.element ≡ number)) (IsDone T places frames) (IsDone T places frames) old new a
         (λ w u. let j = at_listed T (is_near T) number ports_found listed w.near.port u.0.placed u.0.from (subst (λ k. slice_get (elements_of T) k ≡ Some u.0.placed) u.1 u.0.element_at) u.0.near.port_at u.0.from_near in
-            (j.0, omega arith, let l = slice_get_within ports_found j.0 w.near.port j.1 in omega (arith, l, long), (u.0, u.1, j.1)))
+        (j.0, omega arith, let l = slice_get_within ports_found j.0 w.near.port j.1 in omega (arith, l, long), (u.0, u.1, j.1)))
         (λ w r. (r.3.0, r.3.1))
         (λ m r s. s)
 

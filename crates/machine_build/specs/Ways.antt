@@ -11,6 +11,8 @@ use Rattle.nml_elements.specs.declared.elements.Labels.{Labels}
 use Rattle.nml_elements.specs.declared.elements.Labels.TheVariants.{Unlabelled, Of}
 use Rattle.ml_base.specs.declared.numbers.PortNo.{PortNo}
 use Rattle.ml_base.specs.declared.numbers.StateNo.{StateNo}
+use Rattle.ml_base.specs.declared.numbers.Wish.{Wish}
+use Rattle.ml_base.specs.declared.numbers.Wish.TheVariants.{Any, Value}
 use Rattle.std.specs.List.{Contains}
 use Rattle.label_sets.specs.Ranges.{has}
 use Rattle.circuit_spec.specs.declared.hops.Frame.{Frame}
@@ -175,6 +177,15 @@ pub record HaveSpans (T : Topology) (v : PlacesValue) : Type 0 where
 -- the places are those of classes and are open
 abbrev pub AreOpen : Topology → List PlaceName → Type 0
 AreOpen T places = (state : ℕ) (place : PlaceName) → slice_get places state ≡ Some place → (class : Port) × (place.class ≡ class.id) × IsPlace T class.id place.label class
+
+-- whether any label is wished, and the label that is wished else
+abbrev pub is_any : Wish → Bool
+is_any Any = true
+is_any (Value label) = false
+
+abbrev pub label_of : Wish → Tag
+label_of Any = None
+label_of (Value label) = Some label
 
 -- the states of the span
 abbrev pub AreStatesOf : Span → List StateNo → Type 0

@@ -1,6 +1,5 @@
-use Rattle.std.proofs.Common.{◌≡◌, ℕ, inl, inr, refl}
-use Rattle.kept_table.proofs.Known.{no_own_class, own_class}
-use Rattle.kept_table.proofs.Growing.{gathered_none}
+use Rattle.std.proofs.Common.{inr, refl}
+use Rattle.kept_table.proofs.Known.{no_own_class}
 use Rattle.kept_table.proofs.gathering.with_class.Goals as goal
 
 pub returns-then-class-port : goal.returns-then-class-port

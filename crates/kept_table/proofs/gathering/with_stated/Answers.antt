@@ -1,7 +1,6 @@
-use Rattle.std.proofs.Common.{◌≡◌, ◌∙◌, ℕ, None, Some, sym, ap}
+use Rattle.std.proofs.Common.{◌≡◌, ◌∙◌, Some, sym, ap}
 use Rattle.circuit_spec.specs.Network.{label_type}
 use Rattle.nml_inventory.specs.Numbers.{port_number}
-use Rattle.nml_inventory.specs.Relations.{AreClassLabels}
 use Rattle.label_atoms.proofs.Names.{ok_then}
 use Rattle.kept_table.proofs.Stating.{labels_of_id, number_none, number_some, stated_label, stated_nowhere, stated_unlabelled}
 use Rattle.kept_table.proofs.gathering.with_stated.Goals as goal

@@ -11,9 +11,9 @@ pub loop-place-preserved : goal.loop-place-preserved
 loop-place-preserved c = (
   goes_on_then c.args.frames.now.keys c.loop-place.frames.keys c.add_near_port.new.frames.keys c.loop-place.invariant.0 c.in_ok-add_near_port.ensures.on,
   done_next c.args.inventory.now c.args.places.now.places _ 0 c.loop-place.place c.loop-place.frames.keys c.add_near_port.new.frames.keys c.args.moves.now.items c.loop-place.moves.items c.add_near_port.new.moves.items
-    (omega arith) (from_port_apart c.args.inventory.now c.args.places.now.places c.args.number c.near_ports-ports.result.now c.near_ports-ports.ensures) c.in_ok-add_near_port.ensures.on c.loop-place.invariant.1
-    (from_port c.args.inventory.now c.args.places.now.places c.args.number c.near_ports-ports.result.now c.near_ports-ports.ensures c.loop-place.place _ c.add_near_port.new.frames.keys c.loop-place.moves.items c.add_near_port.new.moves.items
-    (slice_get-get_or c.near_ports-ports.result.now c.loop-place.place _ c.loop-place-test.true) c.in_ok-add_near_port.ensures.adds),
+      (omega arith) (from_port_apart c.args.inventory.now c.args.places.now.places c.args.number c.near_ports-ports.result.now c.near_ports-ports.ensures) c.in_ok-add_near_port.ensures.on c.loop-place.invariant.1
+      (from_port c.args.inventory.now c.args.places.now.places c.args.number c.near_ports-ports.result.now c.near_ports-ports.ensures c.loop-place.place _ c.add_near_port.new.frames.keys c.loop-place.moves.items c.add_near_port.new.moves.items
+      (slice_get-get_or c.near_ports-ports.result.now c.loop-place.place _ c.loop-place-test.true) c.in_ok-add_near_port.ensures.adds),
 )
 
 pub add_near_port-requires-clause-near : goal.add_near_port-requires-clause-near

@@ -10,7 +10,7 @@ pub loop-state-preserved : goal.loop-state-preserved
 loop-state-preserved c = (
   goes_on_then c.args.frames.now.keys c.loop-state.frames.keys c.add_near_end.new.frames.keys c.loop-state.invariant.0 c.in_ok-add_near_end.ensures.on,
   done_next c.args.inventory.now c.args.places.now.places _ c.fitting-span.result.first c.loop-state.state c.loop-state.frames.keys c.add_near_end.new.frames.keys c.args.moves.now.items c.loop-state.moves.items c.add_near_end.new.moves.items
-    c.loop-state.auto.state (from_state_apart c.args.inventory.now c.args.places.now.places c.args.number c.args.port) c.in_ok-add_near_end.ensures.on c.loop-state.invariant.1 c.in_ok-add_near_end.ensures.adds,
+      c.loop-state.auto.state (from_state_apart c.args.inventory.now c.args.places.now.places c.args.number c.args.port) c.in_ok-add_near_end.ensures.on c.loop-state.invariant.1 c.in_ok-add_near_end.ensures.adds,
 )
 
 pub add_near_end-requires-clause-near : goal.add_near_end-requires-clause-near

@@ -1,4 +1,4 @@
-use Rattle.std.proofs.Common.{◌≡◌, ◌++◌, ◌∷◌, [], ℕ, List, map, slice_set, refl, sym, subst}
+use Rattle.std.proofs.Common.{◌++◌, ◌∷◌, [], List, map, slice_set, refl, sym, subst}
 use Rattle.std.specs.Rc.{rc_str_bytes}
 use Rattle.nml_inventory.proofs.PortNumbers.{some_at}
 use Rattle.kept_table.specs.declared.gathered.TypeTests.{TypeTests}
