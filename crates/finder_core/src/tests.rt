@@ -64,14 +64,56 @@ fn outcome(
 #[test]
 fn outcomes(rt: HostRuntime) -> Result<(), Fail> {
     let rows = [
-        (ONE, "a", Wish::Any, "b", Wish::Any, Outcome::Found { cost: 1, hops: 1 }),
-        (ONE, "a", Wish::Any, "a", Wish::Any, Outcome::Found { cost: 0, hops: 0 }),
+        (
+            ONE,
+            "a",
+            Wish::Any,
+            "b",
+            Wish::Any,
+            Outcome::Found { cost: 1, hops: 1 },
+        ),
+        (
+            ONE,
+            "a",
+            Wish::Any,
+            "a",
+            Wish::Any,
+            Outcome::Found { cost: 0, hops: 0 },
+        ),
         (ONE, "b", Wish::Any, "a", Wish::Any, Outcome::NoWalk),
-        (TUNNEL, "c1", Wish::Any, "c2", Wish::Any, Outcome::Found { cost: 3, hops: 3 }),
-        (TUNNEL, "c1", Wish::Value(110), "c2", Wish::Value(110), Outcome::Found { cost: 3, hops: 3 }),
-        (TUNNEL, "c1", Wish::Value(100), "c2", Wish::Any, Outcome::NoWalk),
+        (
+            TUNNEL,
+            "c1",
+            Wish::Any,
+            "c2",
+            Wish::Any,
+            Outcome::Found { cost: 3, hops: 3 },
+        ),
+        (
+            TUNNEL,
+            "c1",
+            Wish::Value(110),
+            "c2",
+            Wish::Value(110),
+            Outcome::Found { cost: 3, hops: 3 },
+        ),
+        (
+            TUNNEL,
+            "c1",
+            Wish::Value(100),
+            "c2",
+            Wish::Any,
+            Outcome::NoWalk,
+        ),
         (TUNNEL, "c1", Wish::Any, "s2", Wish::Any, Outcome::NoWalk),
-        (AGAIN, "x1", Wish::Any, "y1", Wish::Any, Outcome::Found { cost: 6, hops: 6 }),
+        (
+            AGAIN,
+            "x1",
+            Wish::Any,
+            "y1",
+            Wish::Any,
+            Outcome::Found { cost: 6, hops: 6 },
+        ),
     ];
     for (text, from, from_wish, to, to_wish, want) in rows {
         assert_eq!(rt;
