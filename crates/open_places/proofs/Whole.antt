@@ -1,15 +1,17 @@
 -- All state places of a network in their order, with the spans of its ports.
-use Rattle.std.proofs.Common.{◌≡◌, ◌∙◌, sym, ap, subst, ℕ, suc, ◌<◌, ◌≤◌, inl, inr, List, [], ◌∷◌, length, Some}
+use Rattle.std.proofs.Common.{◌≡◌, ◌∙◌, refl, sym, ap, subst, ℕ, zero, suc, ◌+◌, ◌<◌, ◌≤◌, ◌⊎◌, inl, inr, List, [], ◌∷◌, ◌++◌, length, Some}
 use Rattle.std.specs.Prelude.{◌↔◌, slice_get}
 use Rattle.std.specs.List.{Contains}
+use Rattle.std.proofs.lemmas.List.{length-append}
 use Rattle.std.proofs.lemmas.Option.{slice_get_within}
+use Rattle.nml_inventory.specs.Aliases.{IsClassNumber}
 use Rattle.circuit_spec.specs.declared.hops.PlaceName.{PlaceName}
 use Rattle.circuit_spec.specs.Network.{Name, Topology, Port, First, Linked, IsClass, ports}
 use Rattle.circuit_spec.proofs.ClassLemmas.{First-unique, class_of_itself}
 use Rattle.kept_table.specs.Table.{KeptOfType}
 use Rattle.open_places.specs.declared.span.Span.{Span}
 use Rattle.open_places.specs.Places.{PlacesValue, ArePlaces, IsRising, IsStatePlace}
-use Rattle.open_places.specs.Spans.{AreSpans, AreStates, IsClassSpan}
+use Rattle.open_places.specs.Spans.{AreSpans, AreStates, IsClassSpan, IsPortSpan}
 use Rattle.open_places.specs.Gathering.{AreGathered}
 
 one_of_some : {A : Type 0} {x y : A} → Some x ≡ Some y → x ≡ y
@@ -75,3 +77,28 @@ all_places T table v gathered places spans is all rise same are = subst (ArePlac
         let port_is : one.port ≡ p = one_of_some (sym one.at ∙ at) in
         let class_is : one.class ≡ class = First-unique (λ (q : Port). Linked T p.id q.id) (ports T) one.class class (subst (λ (q : Port). IsClass T q.id one.class) port_is one.is_class) is_class in
         (subst (λ (c : Port). IsClassSpan places c.id span) class_is one.of_class).of_class
+
+-- an item of a list that has one more
+push_cases : {A : Type 0} (xs : List A) (y : A) (k : ℕ) (x : A) → slice_get (xs ++ y ∷ []) k ≡ Some x → (slice_get xs k ≡ Some x) ⊎ ((k ≡ length xs) × (x ≡ y))
+push_cases [] y zero x at = inr (refl, sym (one_of_some at))
+push_cases [] y (suc k) x at = absurd cc
+push_cases (z ∷ zs) y zero x at = inl at
+push_cases (z ∷ zs) y (suc k) x at = elim (push_cases zs y k x at) [
+  | inl before ↦ inl before
+  | inr last ↦ inr (ap suc last.0, last.1)
+]
+
+-- the span of one more port
+pub spans_more : (T : Topology) (places : List PlaceName) (count class : ℕ) (name : Name) (old new : List Span) (span : Span) → AreSpans T places count old → (m : IsClassNumber T count class) → name ≡ m.first.id → IsClassSpan places name span → new ≡ old ++ span ∷ [] → AreSpans T places (count + 1) new
+spans_more T places count class name old new span before m named of_class is = record {
+  long = ap (length {A = Span}) is ∙ length-append old (span ∷ []) ∙ ap (λ (n : ℕ). n + 1) before.long;
+  each = λ number found at. each number found (push_cases old span number found (ap (λ (xs : List Span). slice_get xs number) (sym is) ∙ at));
+}
+  where
+    here : IsPortSpan T places count span
+    here = record { port = m.port; class = m.first; at = m.is_port; is_class = m.is_class; of_class = subst (λ (id : Name). IsClassSpan places id span) named of_class }
+
+    each : (number : ℕ) (found : Span) → (slice_get old number ≡ Some found) ⊎ ((number ≡ length old) × (found ≡ span)) → IsPortSpan T places number found
+    each number found (inl earlier) = before.each number found earlier
+    each number found (inr (last, same)) =
+        subst (λ (k : ℕ). IsPortSpan T places k found) (sym (last ∙ before.long)) (subst (λ (s : Span). IsPortSpan T places count s) (sym same) here)
