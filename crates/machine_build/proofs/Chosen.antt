@@ -1,5 +1,5 @@
 -- The states that are allowed places of an end.
-use Rattle.std.proofs.Common.{◌≡◌, ◌↔◌, ℕ, zero, suc, ◌+◌, ◌<◌, ◌≤◌, ◌⊎◌, inl, inr, List, [], ◌∷◌, ◌++◌, Bool, true, false, Option, None, Some, map, length, refl, sym, ◌∙◌, ap, subst, arith, Contains}
+use Rattle.std.proofs.Common.{◌≡◌, ◌↔◌, ℕ, zero, suc, ◌+◌, ◌<◌, ◌≤◌, ◌⊎◌, inl, inr, List, [], ◌∷◌, ◌++◌, Option, None, Some, length, refl, sym, ◌∙◌, ap, subst, arith, Contains}
 use Rattle.std.specs.Prelude.{slice_get, option_map}
 use Rattle.std.specs.List.{find}
 use Rattle.std.specs.Option.{option_and_then}
@@ -13,7 +13,7 @@ use Rattle.ml_base.specs.declared.numbers.Wish.{Wish}
 use Rattle.ml_base.specs.declared.numbers.Wish.TheVariants.{Any, Value}
 use Rattle.circuit_spec.specs.declared.hops.PlaceName.{PlaceName}
 use Rattle.circuit_spec.specs.Network.{Name, Tag, Topology, Port, IsClass, IsPlace, ports}
-use Rattle.circuit_spec.specs.Steps.{IsAllowed, IsWished}
+use Rattle.circuit_spec.specs.Steps.{IsWished}
 use Rattle.circuit_spec.proofs.ClassLemmas.{class_of_itself}
 use Rattle.circuit_spec.proofs.Lists.{none_found}
 use Rattle.nml_inventory.specs.Numbers.{port_number}

@@ -1,10 +1,10 @@
 -- The moves from a near end to the far side of an element.
-use Rattle.std.proofs.Common.{◌≡◌, ℕ, ◌+◌, ◌<◌, ◌≤◌, ◌⊎◌, inl, inr, List, [], ◌∷◌, Bool, true, false, Some, map, length, refl, sym, ◌∙◌, ap, subst, arith}
+use Rattle.std.proofs.Common.{◌≡◌, ℕ, ◌+◌, ◌<◌, ◌≤◌, List, Bool, Some, map, length, sym, ◌∙◌, ap, subst, arith}
 use Rattle.std.specs.Prelude.{slice_get}
 use Rattle.std.proofs.lemmas.Option.{slice_get_within}
 use Rattle.ml_base.specs.declared.numbers.PortNo.{PortNo}
 use Rattle.circuit_spec.specs.declared.hops.PlaceName.{PlaceName}
-use Rattle.circuit_spec.specs.Network.{Tag, Topology, Placed, Port, IsClass, Linked, elements_of, ports}
+use Rattle.circuit_spec.specs.Network.{Tag, Topology, Port, IsClass, Linked, ports}
 use Rattle.circuit_spec.proofs.ClassLemmas.{First-unique}
 use Rattle.nml_inventory.specs.Relations.{AreNumbersOf}
 use Rattle.open_places.specs.declared.span.Span.{Span}
@@ -13,7 +13,7 @@ use Rattle.machine_build.specs.declared.ways.End.{End}
 use Rattle.machine_build.specs.declared.ways.Move.{Move}
 use Rattle.machine_build.specs.Adding.{Adds, Between}
 use Rattle.machine_build.specs.Frames.{HasClass}
-use Rattle.machine_build.specs.Ways.{AreFitting, GoesFrom, HasLabel, IsEnd, IsFarPort, Lets, Way, is_far, way_of}
+use Rattle.machine_build.specs.Ways.{AreFitting, GoesFrom, HasLabel, IsEnd, IsFarPort, Lets, Way, is_far}
 use Rattle.machine_build.proofs.Growing.{adds_first, adds_next, adds_same}
 use Rattle.machine_build.proofs.Items.{one_of_some, same_at, some_at}
 use Rattle.machine_build.proofs.Listed.{at_listed, listed_at, listed_once}

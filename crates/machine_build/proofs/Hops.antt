@@ -1,19 +1,16 @@
 -- The steps of the machine are the hops of the network.
-use Rattle.std.proofs.Common.{◌≡◌, ◌↔◌, ℕ, inl, inr, List, [], ◌∷◌, ◌++◌, Bool, true, false, Option, None, Some, map, length, refl, sym, ◌∙◌, ap, subst, Contains}
+use Rattle.std.proofs.Common.{◌≡◌, ℕ, List, [], Option, Some, map, refl, sym, ◌∙◌, ap, subst, Contains}
 use Rattle.std.specs.Prelude.{slice_get, unwrap_or, option_map}
-use Rattle.ml_base.specs.declared.numbers.PortNo.{PortNo}
 use Rattle.ml_base.specs.declared.numbers.StateNo.{StateNo}
 use Rattle.circuit_spec.specs.declared.hops.Frame.{Frame}
 use Rattle.circuit_spec.specs.declared.hops.Hop.{Hop}
 use Rattle.circuit_spec.specs.declared.hops.PlaceName.{PlaceName}
-use Rattle.circuit_spec.specs.declared.hops.Request.{Request}
 use Rattle.circuit_spec.specs.Faults.{duplicate_ids}
-use Rattle.circuit_spec.specs.Network.{Name, Tag, Topology, Placed, Port, IsClass, IsPlace, elements_of, element_named, id_of, ports}
+use Rattle.circuit_spec.specs.Network.{Topology, Placed, Port, IsClass, IsPlace, elements_of, element_named, id_of, ports}
 use Rattle.circuit_spec.specs.Segments.{unit_in}
 use Rattle.circuit_spec.specs.Steps.{Rule, Step, cost_of, cost_of_element}
 use Rattle.circuit_spec.proofs.ClassLemmas.{class_of_itself}
-use Rattle.kept_table.specs.Table.{KeptOfType}
-use Rattle.open_places.specs.Places.{IsRising, IsStatePlace}
+use Rattle.open_places.specs.Places.{IsRising}
 use Rattle.adapt_machine.specs.declared.MachineStep.{MachineStep}
 use Rattle.adapt_machine.specs.Machine.{MachineValue}
 use Rattle.machine_build.specs.declared.built.Site.{Site}
@@ -21,11 +18,11 @@ use Rattle.machine_build.specs.declared.ways.End.{End}
 use Rattle.machine_build.specs.declared.ways.Move.{Move}
 use Rattle.machine_build.specs.Adding.{AreMoves, HasWay}
 use Rattle.machine_build.specs.Built.{BuiltValue, IsDoneBy, IsHopAt, IsState, MovesBy, kind_of}
-use Rattle.machine_build.specs.Frames.{HasClass, IsFramed, step_kind}
+use Rattle.machine_build.specs.Frames.{IsFramed, step_kind}
 use Rattle.machine_build.specs.Ways.{AreOpen, IsDone, IsEnd, IsWay, Way, site_by, site_of, step_by, step_of, way_of}
 use Rattle.machine_build.proofs.Crossed.{one_class}
 use Rattle.machine_build.proofs.Fitting.{one_state, same_place}
-use Rattle.machine_build.proofs.Items.{at_contains, at_mapped, mapped_at, one_of_some, same_at}
+use Rattle.machine_build.proofs.Items.{at_contains, at_mapped, mapped_at, same_at}
 use Rattle.machine_build.proofs.Listed.{among_place, place_among}
 use Rattle.machine_build.proofs.Named.{element_found, element_id, element_numbered, one_element, one_number, same_class}
 use Rattle.machine_build.proofs.Passages.{IsFramedBy, Passage, Passes, Related, Sides, far_by, far_is, from_is, from_of, kind_is, makes_hops, moved, near_by, near_is, passage, rule_related, sides, site_element, step_cost, to_is, to_of}

@@ -1,11 +1,11 @@
 -- Ids that are not there twice: elements and ports by their ids.
-use Rattle.std.proofs.Common.{◌≡◌, ℕ, zero, suc, inl, inr, List, [], ◌∷◌, ◌++◌, Bool, true, false, cond, Option, None, Some, refl, sym, ◌∙◌, ap, subst}
+use Rattle.std.proofs.Common.{◌≡◌, ℕ, zero, suc, inl, inr, List, [], ◌∷◌, ◌++◌, true, false, cond, Some, sym, ◌∙◌, ap}
 use Rattle.std.specs.Prelude.{slice_get}
 use Rattle.std.specs.List.{find}
 use Rattle.std.specs.Str.{bytes_eq}
 use Rattle.std.proofs.lemmas.Bool.{and_parts, or_cases}
 use Rattle.std.proofs.lemmas.Slice.Eq.{bytes_eq-Decides}
-use Rattle.circuit_spec.specs.Network.{Name, Topology, Placed, Port, Chain, Linked, IsClass, elements_of, element_named, id_of, names, port_has, ports, related, states_alias}
+use Rattle.circuit_spec.specs.Network.{Name, Topology, Placed, Port, Chain, Linked, IsClass, elements_of, element_named, id_of, names, port_has, ports, states_alias}
 use Rattle.circuit_spec.specs.Faults.{duplicate_ids, duplicate_topologies, merge_faults, wrong_kinds}
 use Rattle.circuit_spec.proofs.Alone.{found_port}
 use Rattle.circuit_spec.proofs.Among.{IsAmong, among_find, among_first}

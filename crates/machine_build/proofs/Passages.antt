@@ -1,6 +1,6 @@
 -- The ways through elements in the direction of their hops, and the rules of the hops.
-use Rattle.std.proofs.Common.{◌≡◌, ℕ, ◌⊎◌, inl, inr, List, [], ◌∷◌, ◌++◌, Bool, true, false, ◌&&◌, Option, None, Some, refl, sym, ◌∙◌, ap, subst}
-use Rattle.std.specs.Prelude.{slice_get, unwrap_or, option_map}
+use Rattle.std.proofs.Common.{◌≡◌, ℕ, ◌⊎◌, inl, inr, List, [], ◌∷◌, Bool, true, false, ◌&&◌, None, Some, refl, sym, ◌∙◌, ap}
+use Rattle.std.specs.Prelude.{slice_get}
 use Rattle.std.specs.Str.{bytes_eq}
 use Rattle.std.proofs.lemmas.Slice.Eq.{bytes_eq-Decides}
 use Rattle.nml_elements.specs.declared.elements.Element.{Element}
@@ -12,7 +12,7 @@ use Rattle.circuit_spec.specs.declared.hops.Hop.{Hop}
 use Rattle.circuit_spec.specs.declared.hops.HopKind.{HopKind}
 use Rattle.circuit_spec.specs.declared.hops.HopKind.TheVariants as kind
 use Rattle.circuit_spec.specs.declared.hops.PlaceName.{PlaceName}
-use Rattle.circuit_spec.specs.Network.{Name, Tag, Topology, Placed, Port, IsClass, names, port_has, ports}
+use Rattle.circuit_spec.specs.Network.{Name, Tag, Topology, Port, IsClass, names, port_has, ports}
 use Rattle.circuit_spec.specs.Segments.{unit_in}
 use Rattle.circuit_spec.specs.Steps.{IsCarried, Rule, Step, frame_of, inbound_of, outbound_of}
 use Rattle.circuit_spec.proofs.Alone.{found_port}

@@ -1,5 +1,5 @@
 -- The moves through elements.
-use Rattle.std.proofs.Common.{◌≡◌, ℕ, ◌+◌, ◌<◌, ◌≤◌, ◌⊎◌, inl, inr, List, [], ◌∷◌, ◌++◌, Bool, true, false, Option, None, Some, map, length, refl, sym, ◌∙◌, ap, subst, arith}
+use Rattle.std.proofs.Common.{◌≡◌, ℕ, ◌+◌, ◌<◌, ◌≤◌, inl, List, [], ◌++◌, Bool, true, false, None, Some, map, length, refl, sym, ◌∙◌, ap, subst, arith}
 use Rattle.std.specs.Prelude.{option_map, slice_get}
 use Rattle.std.proofs.lemmas.Bool.{both_ways}
 use Rattle.std.proofs.lemmas.List.{append_assoc}
@@ -9,7 +9,7 @@ use Rattle.nml_elements.specs.declared.elements.Element.{Element}
 use Rattle.nml_elements.specs.declared.elements.Element.TheVariants as element
 use Rattle.circuit_spec.specs.declared.hops.Frame.{Frame}
 use Rattle.circuit_spec.specs.declared.hops.PlaceName.{PlaceName}
-use Rattle.circuit_spec.specs.Network.{Tag, Topology, Placed, Port, IsClass, elements_of, ports}
+use Rattle.circuit_spec.specs.Network.{Tag, Topology, Placed, Port, elements_of, ports}
 use Rattle.nml_inventory.specs.Relations.{AreNumbersOf}
 use Rattle.open_places.specs.declared.span.Span.{Span}
 use Rattle.machine_build.specs.declared.ways.Crossing.{Crossing}
@@ -17,10 +17,10 @@ use Rattle.machine_build.specs.declared.ways.Effect.{Effect}
 use Rattle.machine_build.specs.declared.ways.End.{End}
 use Rattle.machine_build.specs.declared.ways.Move.{Move}
 use Rattle.machine_build.specs.Adding.{Adds, AreMoves, Between}
-use Rattle.machine_build.specs.Frames.{GoesOn, HasClass, IsEffect, IsFramed}
-use Rattle.machine_build.specs.Ways.{AreFitting, GoesFrom, HasLabel, IsDone, IsEnd, IsFarPort, IsNearEnd, IsNearPort, IsWay, Lets, Way, changes, is_far, is_near, takes, way_of}
+use Rattle.machine_build.specs.Frames.{GoesOn, IsEffect, IsFramed}
+use Rattle.machine_build.specs.Ways.{AreFitting, GoesFrom, IsDone, IsEnd, IsFarPort, IsNearEnd, IsNearPort, IsWay, Lets, Way, changes, is_far, is_near, takes, way_of}
 use Rattle.machine_build.proofs.Crossed.{end_in, end_is, in_span}
-use Rattle.machine_build.proofs.Growing.{adds_first, adds_next, adds_none, adds_same}
+use Rattle.machine_build.proofs.Growing.{adds_next, adds_none, adds_same}
 use Rattle.machine_build.proofs.Items.{at_left, one_of_some, same_at, then_none}
 use Rattle.machine_build.proofs.Listed.{at_listed, listed_at, listed_once}
 

@@ -1,5 +1,5 @@
 -- The machine of a network, put together.
-use Rattle.std.proofs.Common.{◌≡◌, ◌↔◌, ◌≢◌, ℕ, ◌<◌, ◌≤◌, inl, inr, List, [], ◌∷◌, ◌++◌, Option, None, Some, map, length, refl, sym, ◌∙◌, ap, subst, Contains}
+use Rattle.std.proofs.Common.{◌≡◌, ◌≢◌, ℕ, ◌<◌, List, [], Some, map, length, refl, sym, ◌∙◌, ap, subst}
 use Rattle.std.specs.Prelude.{slice_get}
 use Rattle.std.proofs.Math.ListN.{get_or}
 use Rattle.std.proofs.lemmas.Option.{slice_get-get_or, slice_get_within}
@@ -10,9 +10,9 @@ use Rattle.circuit_spec.specs.declared.hops.Frame.{Frame}
 use Rattle.circuit_spec.specs.declared.hops.PlaceName.{PlaceName}
 use Rattle.circuit_spec.specs.declared.hops.Request.{Request}
 use Rattle.circuit_spec.specs.Faults.{duplicate_ids}
-use Rattle.circuit_spec.specs.Network.{Tag, Topology, Port, IsClass, IsPlace}
+use Rattle.circuit_spec.specs.Network.{Tag, Topology, Port, IsClass}
 use Rattle.kept_table.specs.Table.{KeptOfType}
-use Rattle.open_places.specs.Places.{ArePlaces, IsRising, IsStatePlace, PlacesValue}
+use Rattle.open_places.specs.Places.{ArePlaces, IsStatePlace, PlacesValue}
 use Rattle.adapt_machine.specs.declared.MachineKind.TheVariants.{Flat}
 use Rattle.adapt_machine.specs.Machine.{MachineValue}
 use Rattle.machine_build.specs.declared.built.Site.{Site}

@@ -1,10 +1,10 @@
 -- The hop that is told of a step.
-use Rattle.std.proofs.Common.{◌≡◌, ℕ, List, Option, None, Some, refl, sym, ◌∙◌, ap, subst}
+use Rattle.std.proofs.Common.{◌≡◌, ℕ, List, Some, sym, ◌∙◌, ap, subst}
 use Rattle.std.specs.Prelude.{slice_get, option_map}
 use Rattle.nml_elements.specs.declared.elements.Element.{Element}
 use Rattle.circuit_spec.specs.declared.hops.Hop.{Hop}
 use Rattle.circuit_spec.specs.declared.hops.PlaceName.{PlaceName}
-use Rattle.circuit_spec.specs.Network.{Name, Topology, Placed, Port, elements_of, id_of, ports}
+use Rattle.circuit_spec.specs.Network.{Topology, Placed, Port, elements_of, id_of, ports}
 use Rattle.adapt_machine.specs.declared.MachineStep.{MachineStep}
 use Rattle.machine_build.specs.declared.built.Site.{Site}
 use Rattle.machine_build.specs.Built.{BuiltValue, IsHopAt, kind_of}

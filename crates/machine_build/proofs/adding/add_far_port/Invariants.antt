@@ -1,5 +1,4 @@
-use Rattle.std.proofs.Common.{◌≡◌, ◌≤◌}
-use Rattle.ml_base.specs.declared.numbers.StateNo.{StateNo}
+use Rattle.std.proofs.Common.{◌≡◌}
 use Rattle.machine_build.specs.Adding.{Adds, Between}
 use Rattle.machine_build.proofs.adding.add_far_port.Given as goal
 

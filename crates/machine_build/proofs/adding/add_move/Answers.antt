@@ -1,4 +1,4 @@
-use Rattle.std.proofs.Common.{refl, sym}
+use Rattle.std.proofs.Common.{refl}
 use Rattle.machine_build.proofs.Growing.{adds_one, one_way}
 use Rattle.machine_build.proofs.adding.add_move.Goals as goal
 

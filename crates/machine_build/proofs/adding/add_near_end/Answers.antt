@@ -1,4 +1,4 @@
-use Rattle.std.proofs.Common.{ap, sym, ◌∙◌}
+use Rattle.std.proofs.Common.{sym, ◌∙◌}
 use Rattle.std.proofs.lemmas.Option.{slice_get_within}
 use Rattle.circuit_spec.specs.Network.{elements_of, ports}
 use Rattle.machine_build.proofs.Passed.{element_there, goes_on_none, label_there, near_end_by, takes_none}

@@ -1,6 +1,5 @@
 use Rattle.std.proofs.Common.{arith}
 use Rattle.machine_build.proofs.Passed.{done_next, moves_whole, through_apart}
-use Rattle.machine_build.proofs.Growing.{adds_first}
 use Rattle.machine_build.proofs.adding.moves_of.Goals as goal
 
 pub loop-number-preserved : goal.loop-number-preserved

@@ -1,4 +1,4 @@
-use Rattle.machine_build.proofs.Chosen.{all_allowed, no_class, port_named, port_within}
+use Rattle.machine_build.proofs.Chosen.{all_allowed, no_class, port_named}
 use Rattle.machine_build.proofs.allowed.allowed.Goals as goal
 
 pub unreachable-requires : goal.unreachable-requires

@@ -1,4 +1,4 @@
-use Rattle.std.proofs.Common.{arith, subst, sym, [], List, ◌≡◌}
+use Rattle.std.proofs.Common.{arith}
 use Rattle.machine_build.proofs.Chosen.{no_states, state_more, state_whole}
 use Rattle.machine_build.proofs.allowed.states_in.Goals as goal
 

@@ -1,4 +1,3 @@
-use Rattle.std.proofs.Common.{refl}
 use Rattle.machine_build.proofs.Named.{once}
 use Rattle.machine_build.proofs.Together.{are_open, have_spans, is_built, moves_within}
 use Rattle.machine_build.proofs.building.build.Goals as goal
