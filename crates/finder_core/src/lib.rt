@@ -5,8 +5,6 @@ mod faults;
 mod known;
 mod listing;
 mod solving;
-#[cfg(test)]
-mod tests;
 
 pub use faults::SolveFault;
 pub use solving::{Solved, solve};
