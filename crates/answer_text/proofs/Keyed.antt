@@ -1,6 +1,7 @@
 -- Lines that begin with a key.
 use Rattle.std.proofs.Common.{◌≡◌, ◌∙◌, sym, ap, subst, ℕ, List, [], ◌∷◌, Bool, true, cond, Option, Some, None, Result}
-use Rattle.std.proofs.lemmas.Bool.{eq-eqb}
+use Rattle.std.specs.Prelude.{nat_eq}
+use Rattle.std.proofs.lemmas.Bool.{eqb-true}
 use Rattle.std.proofs.lemmas.Slice.Eq.{bytes_eq-Decides}
 use Rattle.domain_config.specs.declared.reading.Refused.{Refused}
 use Rattle.domain_config.specs.Fields.{Word, kept_if}
@@ -18,9 +19,9 @@ behind_key key word read words ws cut is =
 pub given_behind : {X Y : Type 0} (view : X → Y) (result : Result X Refused) (key word : Word) (read : List Word → Option Y) (words ws : List Word) → words ≡ word ∷ ws → word ≡ key → Gives view result (read ws) → Gives view result (behind key read words)
 given_behind {Y} view result key word read words ws cut is given = subst (λ (o : Option Y). Gives view result o) (sym (behind_key key word read words ws cut is)) given
 
-pub hop_follows : (n : ℕ) (o : Option HopWords) (x : fields.HopWords) → o ≡ Some (hop_view x) → x.number ≡ n → follow_hop n o ≡ Some (hop_added n x)
+pub hop_follows : (n : ℕ) (o : Option HopWords) (x : fields.HopWords) → o ≡ Some (hop_view x) → nat_eq x.number n ≡ true → follow_hop n o ≡ Some (hop_added x.number x)
 hop_follows n o x read same =
-    ap (follow_hop n) read ∙ ap (λ (t : Bool). kept_if t (hop_added n x)) (eq-eqb x.number n same)
+    ap (follow_hop n) read ∙ ap (λ (t : Bool). kept_if t (hop_added n x)) same ∙ ap (λ (k : ℕ). Some (hop_added k x)) (sym (eqb-true x.number n same))
 
 -- the second of two, where the first is not there
 pub given_else : {X Y : Type 0} (view : X → Y) (result : Result X Refused) (first second : Option Y) → first ≡ None → Gives view result second → Gives view result (or_else first second)

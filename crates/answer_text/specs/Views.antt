@@ -1,12 +1,14 @@
 -- The words of a line, seen as the rows that are read.
-use Rattle.std.specs.Prelude.{ℕ, suc, List, Option}
+use Rattle.std.specs.Prelude.{ℕ, suc, List, Option, None, option_map}
 use Rattle.ml_base.specs.declared.weight.Weight.{Weight}
 use Rattle.circuit_spec.specs.declared.hops.PlaceName.{PlaceName}
 use Rattle.domain_config.specs.Fields.{Word, And, Done, done, and_of, id_of, tag_of, done_of}
 use Rattle.ml_base.specs.declared.numbers.Wish.{Wish}
 use Rattle.circuit_spec.specs.declared.hops.Request.{Request}
+use Rattle.circuit_spec.specs.declared.hops.Outcome.{Outcome}
+use Rattle.circuit_spec.specs.declared.hops.Outcome.TheVariants as outcome
 use Rattle.answer_text.specs.declared.fields.HopWords as fields
-use Rattle.answer_text.specs.Reading.{Numbers, TopWords, SegWords, HopWords, RequestWords, flag_of, wish_of, Phase, Hops, add_hop}
+use Rattle.answer_text.specs.Reading.{Numbers, TopWords, SegWords, HopWords, RequestWords, flag_of, wish_of, Phase, Hops, Pots, Step, or_else, found_of, unfound_of, add_hop, add_outcome}
 use Rattle.answer_text.specs.declared.answer.Answer.{Answer}
 
 abbrev pub numbers_view : ℕ × ℕ → Numbers
@@ -73,3 +75,14 @@ request_view r = record { head = r.from; rest = record { head = r.from_wish; res
 -- a hop of this number leads on, and is added
 abbrev pub hop_added : ℕ → fields.HopWords → Phase × (Answer → Answer)
 hop_added n x = (Hops (suc n), add_hop x.hop x.flag)
+
+-- hops may come behind an outcome that is found, potentials behind any other
+abbrev pub outcome_added : Outcome → Phase × (Answer → Answer)
+outcome_added (outcome.Found cost hops) = (Hops 1, add_outcome (outcome.Found cost hops))
+outcome_added outcome.NoWalk = (Pots None, add_outcome outcome.NoWalk)
+outcome_added outcome.Past = (Pots None, add_outcome outcome.Past)
+outcome_added (outcome.Long cost hops) = (Pots None, add_outcome (outcome.Long cost hops))
+
+-- the words behind "outcome"
+abbrev pub outcome_rest : List Word → Step
+outcome_rest words = or_else (option_map (λ o. (Hops 1, add_outcome o)) (found_of words)) (option_map (λ o. (Pots None, add_outcome o)) (unfound_of words))

@@ -1,14 +1,14 @@
 // What one line says behind the heading of a document.
-ghost use Rattle.std.specs.Prelude.{◌≡◌, option_copied};
+ghost use Rattle.std.specs.Prelude.{◌≡◌, option_copied, suc};
 ghost use Rattle.domain_config.specs.Cursor.{Gives};
-ghost use Rattle.domain_config.specs.Rules.{At, rules_end};
+ghost use Rattle.domain_config.specs.Rules.{At, Start, rules_end};
 ghost use Rattle.domain_config.specs.Saying.{at_of};
-ghost use Rattle.answer_text.specs.Reading.{end_step, pots_step, rules_step, where_ended};
+ghost use Rattle.answer_text.specs.Reading.{end_step, hops_step, pots_step, rules_step, where_ended};
 ghost use Rattle.answer_text.specs.Leading.{line_step};
 
 use crate::PotLine;
 use crate::fields::HopWords;
-use crate::steps::pot_line;
+use crate::steps::{hop_line, pot_line};
 use domain_config::{Before, Refused, Said, rule_line};
 use std::alloc::Global;
 
@@ -59,6 +59,17 @@ pub(crate) fn rules_said(alloc: Global, before: &Before, line: &[u8]) -> Result<
     match rule_line(alloc, before, line) {
         Ok(said) => Ok(BodyLine::Rule(said)),
         Err(Refused::Misfit) => after_rules(alloc, before, line),
+        Err(Refused::NoMemory) => Err(Refused::NoMemory),
+    }
+}
+
+/// What a line says behind the hop of this number; 0 stands for no hop.
+pub(crate) fn hops_said(alloc: Global, last: u64, line: &[u8]) -> Result<BodyLine, Refused>
+    ensures { Gives (line_step Start) result (hops_step (suc last) line.now) }
+{
+    match hop_line(alloc, last, line) {
+        Ok(words) => Ok(BodyLine::Hop(words)),
+        Err(Refused::Misfit) => rules_said(alloc, &Before::nothing(), line),
         Err(Refused::NoMemory) => Err(Refused::NoMemory),
     }
 }

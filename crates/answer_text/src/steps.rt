@@ -1,15 +1,15 @@
 // What one line of a document says.
-ghost use Rattle.std.specs.Prelude.{◌≡◌, codes, option_copied, option_map, Some};
-ghost use Rattle.domain_config.specs.Fields.{words_in};
+ghost use Rattle.std.specs.Prelude.{◌≡◌, codes, option_copied, option_map, Some, suc, nat_eq};
+ghost use Rattle.domain_config.specs.Fields.{words_in, kept_if};
 ghost use Rattle.domain_config.specs.Cursor.{parts_of, Gives};
-ghost use Rattle.answer_text.specs.Reading.{behind, top_of, seg_of, pot_of, follow_pot, Pots, add_pot, top_words_of, seg_words_of, hop_words_of, request_words_of, follow_hop};
-ghost use Rattle.answer_text.specs.Views.{hop_view, request_view, hop_added};
+ghost use Rattle.answer_text.specs.Reading.{behind, top_of, seg_of, pot_of, follow_pot, Pots, add_pot, top_words_of, seg_words_of, hop_words_of, request_words_of, follow_hop, outcome_step, version_step, Version, same_answer};
+ghost use Rattle.answer_text.specs.Views.{hop_view, request_view, hop_added, outcome_added, outcome_rest};
 
-use crate::fields::{HopWords, hop_words, request_words, seg_words, top_words};
+use crate::fields::{HopWords, hop_words, numbers, request_words, seg_words, top_words};
 use crate::order::follows;
 use crate::{PotLine, RootName};
-use circuit_spec::Request;
-use domain_config::{Refused, cut};
+use circuit_spec::{Outcome, Request};
+use domain_config::{Refused, cut, next_word, take_end};
 use std::alloc::Global;
 
 pub(crate) fn request_line(alloc: Global, line: &[u8]) -> Result<Request, Refused>
@@ -22,6 +22,49 @@ pub(crate) fn request_line(alloc: Global, line: &[u8]) -> Result<Request, Refuse
     request_words(alloc, words)
 }
 
+fn outcome_words(rest: Option<&[u8]>) -> Result<Outcome, Refused>
+    ensures { Gives outcome_added result (outcome_rest (parts_of 32 (option_copied rest.entry))) }
+{
+    let Some((word, rest)) = next_word(rest) else {
+        return Err(Refused::Misfit);
+    };
+    if word == b"found".as_slice() {
+        let (cost, hops) = numbers(rest)?;
+        return Ok(Outcome::Found { cost, hops });
+    }
+    if word == b"none".as_slice() {
+        take_end(rest)?;
+        return Ok(Outcome::NoWalk);
+    }
+    if word == b"past".as_slice() {
+        take_end(rest)?;
+        return Ok(Outcome::Past);
+    }
+    if word == b"long".as_slice() {
+        let (cost, hops) = numbers(rest)?;
+        return Ok(Outcome::Long { cost, hops });
+    }
+    Err(Refused::Misfit)
+}
+
+/// The outcome that a line says.
+pub(crate) fn outcome_line(line: &[u8]) -> Result<Outcome, Refused>
+    ensures { Gives outcome_added result (outcome_step line.now) }
+{
+    let (key, words) = cut(line, b' ');
+    if key != b"outcome".as_slice() {
+        return Err(Refused::Misfit);
+    }
+    outcome_words(words)
+}
+
+/// Whether a line is the first one of a document.
+pub(crate) fn is_version(line: &[u8]) -> bool
+    ensures { version_step line.now ≡ kept_if result (Version, same_answer) }
+{
+    line == b"circuit 1".as_slice()
+}
+
 fn hop_of_line(alloc: Global, line: &[u8]) -> Result<HopWords, Refused>
     ensures { Gives hop_view result (behind (codes "hop") hop_words_of (words_in line.now)) }
 {
@@ -32,12 +75,18 @@ fn hop_of_line(alloc: Global, line: &[u8]) -> Result<HopWords, Refused>
     hop_words(alloc, words)
 }
 
-/// The hop that a line says, where it has this number.
-pub(crate) fn hop_line(alloc: Global, number: u64, line: &[u8]) -> Result<HopWords, Refused>
-    ensures { Gives (hop_added number) result (follow_hop number (behind (codes "hop") hop_words_of (words_in line.now))) }
+fn is_next(last: u64, number: u64) -> bool
+    ensures { result ≡ nat_eq number (suc last) }
+{
+    last < number && number - last == 1
+}
+
+/// The hop that a line says, where it is the next one behind the hop of this number.
+pub(crate) fn hop_line(alloc: Global, last: u64, line: &[u8]) -> Result<HopWords, Refused>
+    ensures { Gives (λ x. hop_added x.number x) result (follow_hop (suc last) (behind (codes "hop") hop_words_of (words_in line.now))) }
 {
     let words = hop_of_line(alloc, line)?;
-    if words.number != number {
+    if !is_next(last, words.number) {
         return Err(Refused::Misfit);
     }
     Ok(words)

@@ -52,24 +52,22 @@ record IsLate (n : ℕ) : Type 0 where
   five : n ≢ 5
   eleven : n ≢ 11
 
-late-of : (n : ℕ) → (n ≡ 0) ⊎ ((n ≡ 1) ⊎ ((n ≡ 4) ⊎ ((n ≡ 7) ⊎ ((n ≡ 8) ⊎ (n ≡ 12))))) → IsLate n
+late-of : (n : ℕ) → (n ≡ 0) ⊎ ((n ≡ 1) ⊎ ((n ≡ 4) ⊎ ((n ≡ 7) ⊎ (n ≡ 8)))) → IsLate n
 late-of n (inl e) = record { two = λ f. absurd (omega arith); three = λ f. absurd (omega arith); five = λ f. absurd (omega arith); eleven = λ f. absurd (omega arith) }
 late-of n (inr (inl e)) = record { two = λ f. absurd (omega arith); three = λ f. absurd (omega arith); five = λ f. absurd (omega arith); eleven = λ f. absurd (omega arith) }
 late-of n (inr (inr (inl e))) = record { two = λ f. absurd (omega arith); three = λ f. absurd (omega arith); five = λ f. absurd (omega arith); eleven = λ f. absurd (omega arith) }
 late-of n (inr (inr (inr (inl e)))) = record { two = λ f. absurd (omega arith); three = λ f. absurd (omega arith); five = λ f. absurd (omega arith); eleven = λ f. absurd (omega arith) }
-late-of n (inr (inr (inr (inr (inl e))))) = record { two = λ f. absurd (omega arith); three = λ f. absurd (omega arith); five = λ f. absurd (omega arith); eleven = λ f. absurd (omega arith) }
-late-of n (inr (inr (inr (inr (inr e))))) = record { two = λ f. absurd (omega arith); three = λ f. absurd (omega arith); five = λ f. absurd (omega arith); eleven = λ f. absurd (omega arith) }
+late-of n (inr (inr (inr (inr e)))) = record { two = λ f. absurd (omega arith); three = λ f. absurd (omega arith); five = λ f. absurd (omega arith); eleven = λ f. absurd (omega arith) }
 
 outcome-late : (o : Outcome) (n : ℕ) → n ≡ code (status_of o) → IsLate n
 outcome-late (Found cost hops) n e = late-of n (inl e)
 outcome-late NoWalk n e = late-of n (inr (inl e))
 outcome-late Past n e = late-of n (inr (inr (inr (inl e))))
-outcome-late (Long cost hops) n e = late-of n (inr (inr (inr (inr (inl e)))))
+outcome-late (Long cost hops) n e = late-of n (inr (inr (inr (inr e))))
 
 found-late : (r : Request) (T : Topology) (a : Reply) → IsFound r T a → IsLate (code_of a)
-found-late r T a (inl p) = late-of (code_of a) (inr (inr (inr (inr (inr (ap code_of p.is))))))
-found-late r T a (inr (_, inl p)) = late-of (code_of a) (inr (inr (inl (ap code_of p.is))))
-found-late r T a (inr (_, inr p)) = outcome-late p.outcome (code_of a) (ap code_of p.is)
+found-late r T a (inl p) = late-of (code_of a) (inr (inr (inl (ap code_of p.is))))
+found-late r T a (inr p) = outcome-late p.outcome (code_of a) (ap code_of p.is)
 
 survey-late : (T : Topology) (a : Reply) → IsSurvey T a → IsLate (code_of a)
 survey-late T a p = late-of (code_of a) (inl (ap code_of p.is))

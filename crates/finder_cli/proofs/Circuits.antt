@@ -21,7 +21,7 @@ use Rattle.answer_text.specs.Spelling.{IsWellFormed, lines_of}
 use Rattle.answer_text.proofs.AnswerLaws.{document_only, lines_whole}
 use Rattle.finder_core.specs.Solved.{IsListed}
 use Rattle.finder_cli.specs.declared.reply.Reply.{Reply}
-use Rattle.finder_cli.specs.Finding.{IsFoundIn, bare_answer}
+use Rattle.finder_cli.specs.Finding.{IsFound, bare_answer}
 use Rattle.finder_cli.specs.Sentences.{Ran, PrintsCircuit, FindsCircuit}
 use Rattle.finder_cli.specs.Status.{code, status_of}
 use Rattle.finder_cli.specs.Words.{Words}
@@ -69,7 +69,7 @@ prints T r (Found cost count) hops old new e is listed formed printed = record {
   least = λ others walk. subst (λ (w : FullWeight). IsAtMost w (weight_of T others)) (sym listed.1) (is.0.least others walk);
 }
 
-prints_in : (T : Topology) (r : Request) (reply : Reply) (old new : Option (List ℕ)) → ◌≡◌ {A = ℕ} 0 (code reply.status) → IsFoundIn r T reply → Appends old new reply.text → PrintsCircuit T r old new
+prints_in : (T : Topology) (r : Request) (reply : Reply) (old new : Option (List ℕ)) → ◌≡◌ {A = ℕ} 0 (code reply.status) → IsFound r T reply → Appends old new reply.text → PrintsCircuit T r old new
 prints_in T r reply old new e (inl p) printed = let four : ◌≡◌ {A = ℕ} 0 4 = e ∙ ap (λ (a : Reply). code a.status) p.is in absurd (omega arith)
 prints_in T r reply old new e (inr p) printed =
     prints T r p.outcome p.hops old new (sym (e ∙ ap (λ (a : Reply). code a.status) p.is)) p.is_outcome p.is_listed p.formed (subst (λ (a : Reply). Appends old new a.text) p.is printed)

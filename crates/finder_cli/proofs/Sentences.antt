@@ -11,15 +11,14 @@ use Rattle.circuit_spec.specs.Faults.{IsAccepted, IsKnown}
 use Rattle.circuit_spec.specs.Network.{Topology}
 use Rattle.circuit_spec.specs.Steps.{IsOutcome, Walk}
 use Rattle.circuit_spec.proofs.OneOutcome.{one_outcome}
-use Rattle.finder_core.specs.Built.{IsBuilt}
 use Rattle.finder_cli.specs.declared.reply.Reply.{Reply}
 use Rattle.finder_cli.specs.declared.words.Command.{Command}
 use Rattle.finder_cli.specs.declared.words.Command.TheVariants.{Find}
 use Rattle.finder_cli.specs.Accepting.{IfAccepted}
 use Rattle.finder_cli.specs.Answers.{CommandAnswers, Answers}
-use Rattle.finder_cli.specs.Finding.{IsFound, IsFoundIn}
+use Rattle.finder_cli.specs.Finding.{IsFound}
 use Rattle.finder_cli.specs.Reading.{file_words}
-use Rattle.finder_cli.specs.Sentences.{Tells, Ran, Asks, AsksBuilt, AsksKnown, FindsNone, FindsPast, FindsLong, FindsUnknown, FindsUnbuilt}
+use Rattle.finder_cli.specs.Sentences.{Tells, Ran, Asks, AsksAccepted, AsksKnown, FindsNone, FindsPast, FindsLong, FindsUnknown}
 use Rattle.finder_cli.specs.Status.{code, status_of}
 use Rattle.finder_cli.specs.Words.{Words}
 use Rattle.finder_cli.proofs.Passing.{over-domains}
@@ -49,12 +48,8 @@ after-accepted : (r : Request) (T : Topology) (reply : Reply) → IsAccepted T �
 after-accepted r T reply accepted (inl p) = absurd (rejected-apart T reply p accepted)
 after-accepted r T reply accepted (inr p) = p.1
 
-after-built : (r : Request) (T : Topology) (reply : Reply) → IsBuilt T → IsFound r T reply → IsFoundIn r T reply
-after-built r T reply built (inl p) = absurd (p.uncovered built)
-after-built r T reply built (inr p) = p.1
-
-pub found-in : (before after : Store) (words : Words) (r : Request) (T : Topology) (reply : Reply) → Tells before after → AsksBuilt words before r T → Answers words before after reply → IsFoundIn r T reply
-found-in before after words r T reply tells asks may = after-built r T reply asks.built (after-accepted r T reply asks.accepted (asked before after words r T reply tells asks.asks may))
+pub found-in : (before after : Store) (words : Words) (r : Request) (T : Topology) (reply : Reply) → Tells before after → AsksAccepted words before r T → Answers words before after reply → IsFound r T reply
+found-in before after words r T reply tells asks may = after-accepted r T reply asks.accepted (asked before after words r T reply tells asks.asks may)
 
 -- the outcome that a reply to a known request tells
 pub record Outcomes (T : Topology) (r : Request) (status : ℕ) : Type 0 where
@@ -62,7 +57,7 @@ pub record Outcomes (T : Topology) (r : Request) (status : ℕ) : Type 0 where
   pub is : IsOutcome T r outcome
   pub told : status ≡ code (status_of outcome)
 
-answered-outcome : (T : Topology) (r : Request) (status : ℕ) (reply : Reply) → status ≡ code reply.status → IsKnown T r → IsFoundIn r T reply → Outcomes T r status
+answered-outcome : (T : Topology) (r : Request) (status : ℕ) (reply : Reply) → status ≡ code reply.status → IsKnown T r → IsFound r T reply → Outcomes T r status
 answered-outcome T r status reply e known (inl p) = absurd (refusal-apart T r p.fault p.told p.cause known)
 answered-outcome T r status reply e known (inr p) = record { outcome = p.outcome; is = p.is_outcome; told = e ∙ ap (λ (a : Reply). code a.status) p.is }
 
@@ -75,7 +70,7 @@ none-exact : (T : Topology) (r : Request) (o : Outcome) (status : ℕ) → IsOut
 none-exact T r NoWalk status is e = (λ one. is, λ none. e)
 none-exact T r Past status is e = (λ one. absurd (omega arith), λ none. absurd (none is.0.0 is.0.1))
 none-exact T r (Found cost hops) status is e = (λ one. absurd (omega arith), λ none. absurd (none is.0.hops is.0.walk))
-none-exact T r (Long cost hops) status is e = (λ one. absurd (omega arith), λ none. absurd (none is.1.hops is.1.walk))
+none-exact T r (Long cost hops) status is e = (λ one. absurd (omega arith), λ none. absurd (none is.0.hops is.0.holds))
 
 past-exact : (T : Topology) (r : Request) (o : Outcome) (status : ℕ) → IsOutcome T r o → status ≡ code (status_of o) → (status ≡ 7) ↔ IsOutcome T r Past
 past-exact T r Past status is e = (λ seven. is, λ past. e)
@@ -104,7 +99,7 @@ pub says-long : (words : Words) (before after : Store) (status : ℕ) (reply : R
 says-long words before after status reply done = λ ran tells r T asks.
     let o : Outcomes T r status = outcomes before after words r T status reply tells asks (done ran) in long-exact T r o.outcome status o.is o.told
 
--- ---- 4 and 12
+-- ---- 4
 
 outcome-known : (o : Outcome) (status : ℕ) → status ≡ code (status_of o) → status ≢ 4
 outcome-known NoWalk status e = λ four. absurd (omega arith)
@@ -112,30 +107,12 @@ outcome-known Past status e = λ four. absurd (omega arith)
 outcome-known (Found cost hops) status e = λ four. absurd (omega arith)
 outcome-known (Long cost hops) status e = λ four. absurd (omega arith)
 
-outcome-built : (o : Outcome) (status : ℕ) → status ≡ code (status_of o) → status ≢ 12
-outcome-built NoWalk status e = λ twelve. absurd (omega arith)
-outcome-built Past status e = λ twelve. absurd (omega arith)
-outcome-built (Found cost hops) status e = λ twelve. absurd (omega arith)
-outcome-built (Long cost hops) status e = λ twelve. absurd (omega arith)
-
 abbrev code_of : Reply → ℕ
 code_of a = code a.status
 
-unknown-exact : (T : Topology) (r : Request) (status : ℕ) (reply : Reply) → status ≡ code reply.status → IsFoundIn r T reply → (status ≡ 4) ↔ (¬ IsKnown T r)
+unknown-exact : (T : Topology) (r : Request) (status : ℕ) (reply : Reply) → status ≡ code reply.status → IsFound r T reply → (status ≡ 4) ↔ (¬ IsKnown T r)
 unknown-exact T r status reply e (inl p) = (λ four known. refusal-apart T r p.fault p.told p.cause known, λ unknown. e ∙ ap code_of p.is)
 unknown-exact T r status reply e (inr p) = (λ four. absurd (outcome-known p.outcome status (e ∙ ap code_of p.is) four), λ unknown. absurd (unknown p.known))
 
 pub says-unknown : (words : Words) (before after : Store) (status : ℕ) (reply : Reply) → (Ran status → IsDone words before after status reply) → FindsUnknown words before after status
 says-unknown words before after status reply done = λ ran tells r T asks. unknown-exact T r status reply (done ran).code (found-in before after words r T reply tells asks (done ran).may)
-
-found-built : (T : Topology) (r : Request) (status : ℕ) (reply : Reply) → status ≡ code reply.status → IsFoundIn r T reply → status ≢ 12
-found-built T r status reply e (inl p) = λ twelve. let four : status ≡ 4 = e ∙ ap code_of p.is in absurd (omega arith)
-found-built T r status reply e (inr p) = outcome-built p.outcome status (e ∙ ap code_of p.is)
-
-unbuilt-exact : (T : Topology) (r : Request) (status : ℕ) (reply : Reply) → status ≡ code reply.status → IsFound r T reply → (status ≡ 12) ↔ (¬ IsBuilt T)
-unbuilt-exact T r status reply e (inl p) = (λ twelve. p.uncovered, λ unbuilt. e ∙ ap code_of p.is)
-unbuilt-exact T r status reply e (inr p) = (λ twelve. absurd (found-built T r status reply e p.1 twelve), λ unbuilt. absurd (unbuilt p.0))
-
-pub says-unbuilt : (words : Words) (before after : Store) (status : ℕ) (reply : Reply) → (Ran status → IsDone words before after status reply) → FindsUnbuilt words before after status
-says-unbuilt words before after status reply done = λ ran tells r T asks accepted.
-    unbuilt-exact T r status reply (done ran).code (after-accepted r T reply accepted (asked before after words r T reply tells asks (done ran).may))

@@ -1,16 +1,16 @@
 -- Over told contents, where reading has not failed, all replies that may be have one status.
 use Rattle.std.proofs.Common.{ℕ, ◌≡◌, ◌≢◌, ◌∙◌, sym, refl, ap, subst, List, [], ◌∷◌, Option, Some, None, IsSome, ◌⊎◌, inl, inr}
 use Rattle.std.proofs.lemmas.Bool.{false≢true}
-use Rattle.ml_base.specs.declared.numbers.Wish.{Wish}
-use Rattle.ml_base.specs.declared.numbers.Wish.TheVariants.{Any, Value}
 use Rattle.io_edges.specs.Counts.{Rose}
 use Rattle.io_edges.specs.Reads.{Store, Contents}
 use Rattle.circuit_spec.specs.declared.faults.MergeFault.{MergeFault}
 use Rattle.circuit_spec.specs.declared.hops.Request.{Request}
-use Rattle.circuit_spec.specs.Faults.{IsAccepted, IsKnown, IsKnownEnd, merge_faults}
-use Rattle.circuit_spec.specs.Network.{Name, Topology}
+use Rattle.circuit_spec.specs.Faults.{IsAccepted, IsKnown, merge_faults}
+use Rattle.circuit_spec.specs.Network.{Topology}
 use Rattle.circuit_spec.proofs.OneFault.{sound_has_none}
 use Rattle.circuit_spec.proofs.OneOutcome.{one_outcome}
+use Rattle.circuit_spec.proofs.OneRequestFault.{known_has_none}
+use Rattle.circuit_spec.specs.declared.faults.RequestFault.TheVariants as refusal
 use Rattle.finder_core.specs.Solved.{IsRefusal}
 use Rattle.finder_core.specs.declared.faults.SolveFault.{SolveFault}
 use Rattle.finder_core.specs.declared.faults.SolveFault.TheVariants as solving
@@ -19,7 +19,7 @@ use Rattle.finder_cli.specs.declared.words.Command.{Command}
 use Rattle.finder_cli.specs.declared.words.Command.TheVariants.{Find, Survey}
 use Rattle.finder_cli.specs.Accepting.{IsRejected, IfAccepted}
 use Rattle.finder_cli.specs.Answers.{files_named, Replies, CommandAnswers, Answers}
-use Rattle.finder_cli.specs.Finding.{IsFound, IsFoundIn}
+use Rattle.finder_cli.specs.Finding.{IsFound}
 use Rattle.finder_cli.specs.Status.{status_of}
 use Rattle.finder_cli.specs.Surveying.{IsSurvey}
 use Rattle.finder_cli.specs.Words.{Words, command_of}
@@ -48,36 +48,18 @@ accepted-one Next T a b next (inr p) (inr q) = next p.1 q.1
 
 -- ---- requests
 
-known-port : (T : Topology) (port : Name) (wish : Wish) → IsKnownEnd T port wish → IsKnownEnd T port Any
-known-port T port wish known = (known.0, known.1, tt)
-
-stated : (T : Topology) (port : Name) (wish other : Wish) → wish ≡ other → IsKnownEnd T port wish → IsKnownEnd T port other
-stated T port wish other e known = subst (λ (w : Wish). IsKnownEnd T port w) e known
-
 pub refusal-apart : (T : Topology) (r : Request) (fault : SolveFault) → fault ≢ solving.NoMemory → IsRefusal T r fault → IsKnown T r → ⊥
-refusal-apart T r (solving.UnknownPort id) told (inl p) known = p.1 (known-port T r.from r.from_wish known.0)
-refusal-apart T r (solving.UnknownPort id) told (inr p) known = p.2 (known-port T r.to r.to_wish known.1)
-refusal-apart T r (solving.LabelNotHere id label) told p known = label-apart p.2
-  where
-    label-apart : ((id ≡ r.from) × (r.from_wish ≡ Value label) × (¬ IsKnownEnd T r.from (Value label)))
-        ⊎ ((id ≡ r.to) × (r.to_wish ≡ Value label) × IsKnownEnd T r.from r.from_wish × (¬ IsKnownEnd T r.to (Value label))) → ⊥
-    label-apart (inl q) = q.2 (stated T r.from r.from_wish (Value label) q.1 known.0)
-    label-apart (inr q) = q.3 (stated T r.to r.to_wish (Value label) q.1 known.1)
+refusal-apart T r (solving.UnknownPort id) told p known = known_has_none T r (refusal.UnknownPort id) known p
+refusal-apart T r (solving.LabelNotHere id label) told p known = known_has_none T r (refusal.LabelNotHere id label) known p
 refusal-apart T r solving.NoMemory told p known = told refl
 
 -- ---- the commands
 
-found-in-one : (r : Request) (T : Topology) (a b : Reply) → IsFoundIn r T a → IsFoundIn r T b → SameStatus a b
-found-in-one r T a b (inl p) (inl q) = by-lines a b _ _ p.is q.is refl
-found-in-one r T a b (inl p) (inr q) = absurd (refusal-apart T r p.fault p.told p.cause q.known)
-found-in-one r T a b (inr p) (inl q) = absurd (refusal-apart T r q.fault q.told q.cause p.known)
-found-in-one r T a b (inr p) (inr q) = by-lines a b _ _ p.is q.is (ap status_of (one_outcome T r p.outcome q.outcome p.is_outcome q.is_outcome))
-
 found-one : (r : Request) (T : Topology) (a b : Reply) → IsFound r T a → IsFound r T b → SameStatus a b
 found-one r T a b (inl p) (inl q) = by-lines a b _ _ p.is q.is refl
-found-one r T a b (inl p) (inr q) = absurd (p.uncovered q.0)
-found-one r T a b (inr p) (inl q) = absurd (q.uncovered p.0)
-found-one r T a b (inr p) (inr q) = found-in-one r T a b p.1 q.1
+found-one r T a b (inl p) (inr q) = absurd (refusal-apart T r p.fault p.told p.cause q.known)
+found-one r T a b (inr p) (inl q) = absurd (refusal-apart T r q.fault q.told q.cause p.known)
+found-one r T a b (inr p) (inr q) = by-lines a b _ _ p.is q.is (ap status_of (one_outcome T r p.outcome q.outcome p.is_outcome q.is_outcome))
 
 survey-one : (T : Topology) (a b : Reply) → IsSurvey T a → IsSurvey T b → SameStatus a b
 survey-one T a b p q = by-lines a b _ _ p.is q.is refl

@@ -9,13 +9,12 @@ use Rattle.circuit_spec.specs.Steps.{IsOutcome}
 use Rattle.domain_config.specs.Lines.{text_of}
 use Rattle.answer_text.specs.declared.answer.Answer.{Answer}
 use Rattle.answer_text.specs.Spelling.{lines_of, IsWellFormed}
-use Rattle.finder_core.specs.Built.{IsBuilt}
 use Rattle.finder_core.specs.Solved.{IsListed, IsRefusal}
 use Rattle.finder_core.specs.declared.faults.SolveFault.{SolveFault}
 use Rattle.finder_core.specs.declared.faults.SolveFault.TheVariants as solving
 use Rattle.finder_cli.specs.declared.reply.Reply.{Reply}
 use Rattle.finder_cli.specs.declared.reply.Status.TheVariants as statuses
-use Rattle.finder_cli.specs.Lines.{unbuilt_line, request_line}
+use Rattle.finder_cli.specs.Lines.{request_line}
 use Rattle.finder_cli.specs.Status.{status_of}
 use Rattle.finder_cli.specs.Through.{IsText}
 
@@ -33,11 +32,6 @@ bare_answer r outcome hops = record {
   rules = [];
   potentials = [];
 }
-
--- the search does not cover the topology yet
-pub record IsUnbuilt (T : Topology) (reply : Reply) : Type 0 where
-  pub uncovered : ¬ IsBuilt T
-  pub is : IsText statuses.Unbuilt unbuilt_line reply
 
 -- the request is not known to the topology, and the reply tells the first cause
 pub record IsUnknown (T : Topology) (r : Request) (reply : Reply) : Type 0 where
@@ -57,9 +51,6 @@ pub record IsAnswered (T : Topology) (r : Request) (reply : Reply) : Type 0 wher
   pub formed : IsWellFormed (bare_answer r outcome hops)
   pub is : IsText (status_of outcome) (text_of (lines_of (bare_answer r outcome hops))) reply
 
--- the reply over a topology that the search covers
-abbrev pub IsFoundIn : Request → Topology → Reply → Type 0
-IsFoundIn r T reply = IsUnknown T r reply ⊎ IsAnswered T r reply
-
+-- the reply over an accepted topology
 abbrev pub IsFound : Request → Topology → Reply → Type 0
-IsFound r T reply = IsUnbuilt T reply ⊎ (IsBuilt T × IsFoundIn r T reply)
+IsFound r T reply = IsUnknown T r reply ⊎ IsAnswered T r reply

@@ -77,9 +77,6 @@ layer_line T layering.NoMemory = []
 
 -- ---- requests
 
-unfoldable pub unbuilt_line : List ℕ
-unbuilt_line = codes "unbuilt\n"
-
 unfoldable pub unknown_port_line : Name → List ℕ
 unknown_port_line id = codes "request unknown-port " ++ id ++ codes "\n"
 

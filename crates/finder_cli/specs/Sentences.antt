@@ -1,7 +1,7 @@
 -- What the status and the text of a run say of the network that its files describe.
 --   Tells            the premise: contents are told, and reading has not failed
 --   Ran              the premise: no write failed, and memory did not run out
---   Asks             the words ask for a circuit of a request over an accepted topology that the search covers
+--   Asks             the words ask for a circuit of a request over these domains
 --   PrintsCircuit    what stands in the text after status 0
 use Rattle.std.specs.Prelude.{◌≡◌, ◌≢◌, ◌↔◌, ◌⊎◌, ℕ, List, Bool, Option, None, Some, IsSome, IfSome, ◌<◌, Contains, ◌++◌}
 use Rattle.std.specs.Io.KnownBytes.{Appends}
@@ -21,7 +21,6 @@ use Rattle.domain_config.specs.Lines.{text_of}
 use Rattle.answer_text.specs.declared.answer.Answer.{Answer}
 use Rattle.answer_text.specs.Spelling.{IsWellFormed, lines_of}
 use Rattle.nml_inventory.specs.Relations.{IsClassCount}
-use Rattle.finder_core.specs.Built.{IsBuilt}
 use Rattle.finder_cli.specs.declared.reading.FileWord.{FileWord}
 use Rattle.finder_cli.specs.declared.words.Command.{Command}
 use Rattle.finder_cli.specs.declared.words.Command.TheVariants.{Find, Survey}
@@ -48,15 +47,14 @@ pub record Asks (words : Words) (before : Store) (r : Request) (T : Topology) : 
   pub command : command_of words ≡ Some (Find r names potentials)
   pub domains : AreDomains before (file_words 1 names) T
 
--- the same, where the topology is accepted and the search covers it
-pub record AsksBuilt (words : Words) (before : Store) (r : Request) (T : Topology) : Type 0 where
+-- the same, where the topology is accepted
+pub record AsksAccepted (words : Words) (before : Store) (r : Request) (T : Topology) : Type 0 where
   pub asks : Asks words before r T
   pub accepted : IsAccepted T
-  pub built : IsBuilt T
 
 -- the same, where the request is known
 pub record AsksKnown (words : Words) (before : Store) (r : Request) (T : Topology) : Type 0 where
-  pub asks : AsksBuilt words before r T
+  pub asks : AsksAccepted words before r T
   pub known : IsKnown T r
 
 -- ---- what is printed after status 0
@@ -80,7 +78,7 @@ pub record PrintsCircuit (T : Topology) (r : Request) (old new : Option (List �
 -- 0: the text is such a document
 abbrev pub FindsCircuit : Words → Store → Store → ℕ → Option (List ℕ) → Option (List ℕ) → Type 0
 FindsCircuit words before after status old new =
-    status ≡ 0 → Tells before after → (r : Request) (T : Topology) → AsksBuilt words before r T → PrintsCircuit T r old new
+    status ≡ 0 → Tells before after → (r : Request) (T : Topology) → AsksAccepted words before r T → PrintsCircuit T r old new
 
 -- 0, for `survey`: the text is the counts of the files
 abbrev pub CountsFiles : Words → Store → Store → ℕ → Option (List ℕ) → Option (List ℕ) → Type 0
@@ -109,12 +107,7 @@ FindsLong words before after status =
 -- 4: exactly where the request is not known to the topology
 abbrev pub FindsUnknown : Words → Store → Store → ℕ → Type 0
 FindsUnknown words before after status =
-    Ran status → Tells before after → (r : Request) (T : Topology) → AsksBuilt words before r T → (status ≡ 4) ↔ (¬ IsKnown T r)
-
--- 12: exactly where the search does not cover the topology yet
-abbrev pub FindsUnbuilt : Words → Store → Store → ℕ → Type 0
-FindsUnbuilt words before after status =
-    Ran status → Tells before after → (r : Request) (T : Topology) → Asks words before r T → IsAccepted T → (status ≡ 12) ↔ (¬ IsBuilt T)
+    Ran status → Tells before after → (r : Request) (T : Topology) → AsksAccepted words before r T → (status ≡ 4) ↔ (¬ IsKnown T r)
 
 -- the files of a command are read, and these are their bytes
 pub record AreReadFor (words : Words) (before : Store) (contents : List (List ℕ)) : Type 0 where

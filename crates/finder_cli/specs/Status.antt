@@ -3,7 +3,7 @@ use Rattle.std.specs.Prelude.{ℕ}
 use Rattle.circuit_spec.specs.declared.hops.Outcome.{Outcome}
 use Rattle.circuit_spec.specs.declared.hops.Outcome.TheVariants as outcome
 use Rattle.finder_cli.specs.declared.reply.Status.{Status}
-use Rattle.finder_cli.specs.declared.reply.Status.TheVariants.{Done, NoWalk, Usage, Fault, NoRequest, NotRead, Past, Long, TooBig, Unbuilt}
+use Rattle.finder_cli.specs.declared.reply.Status.TheVariants.{Done, NoWalk, Usage, Fault, NoRequest, NotRead, Past, Long, TooBig}
 
 abbrev pub code : Status → ℕ
 code Done = 0
@@ -15,7 +15,6 @@ code NotRead = 5
 code Past = 7
 code Long = 8
 code TooBig = 11
-code Unbuilt = 12
 
 -- the status of a search with this outcome
 abbrev pub status_of : Outcome → Status

@@ -6,17 +6,16 @@ ghost use Rattle.circuit_spec.specs.Network.{elements_of};
 ghost use Rattle.domain_config.specs.Lines.{text_of};
 ghost use Rattle.answer_text.specs.Ordered.{IsOrdered};
 ghost use Rattle.answer_text.specs.Spelling.{lines_of, IsWellFormed};
-ghost use Rattle.finder_core.specs.Built.{IsBuilt};
 ghost use Rattle.finder_core.specs.Solved.{IsListed};
 ghost use Rattle.finder_cli.specs.Accepting.{IfAccepted};
-ghost use Rattle.finder_cli.specs.Finding.{IsFound, IsFoundIn, bare_answer, no_flags};
+ghost use Rattle.finder_cli.specs.Finding.{IsFound, bare_answer, no_flags};
 ghost use Rattle.finder_cli.specs.Lines.{request_line};
 ghost use Rattle.finder_cli.specs.Reading.{OverFiles, file_words};
 ghost use Rattle.finder_cli.specs.Status.{status_of};
 ghost use Rattle.finder_cli.specs.Through.{Gives, IsText};
 
 use crate::accepting::accept;
-use crate::lines::{make_label_not_here_line, make_unbuilt_line, make_unknown_port_line};
+use crate::lines::{make_label_not_here_line, make_unknown_port_line};
 use crate::page::Page;
 use crate::parsing::read_domains;
 use crate::reply::{Reply, Status, Stop, one_line, status_of};
@@ -25,7 +24,7 @@ use crate::words::NameList;
 use answer_text::{Answer, FlagList, PotList, well_formed};
 use circuit_spec::{Hop, Request};
 use domain_config::RuleList;
-use finder_core::{SolveFault, Solved, is_built, solve};
+use finder_core::{SolveFault, Solved, solve};
 use io_edges::Files;
 use ml_base::NoMemory;
 use nml_elements::DomainList;
@@ -102,25 +101,14 @@ fn answered(alloc: Global, request: &Request, solved: Solved) -> Result<Reply, N
     unreachable!()
 }
 
-fn find_built(alloc: Global, inventory: &Inventory, request: &Request) -> Result<Reply, NoMemory>
-    requires sound { IsSound inventory.now }
-    requires built { IsBuilt inventory.now }
-    ensures { IfOk result (IsFoundIn request.now inventory.now) }
+fn find_in(alloc: Global, inventory: &Inventory, request: &Request) -> Result<Reply, NoMemory>
+    requires { IsSound inventory.now }
+    ensures { IfOk result (IsFound request.now inventory.now) }
 {
     match solve(alloc, inventory, request) {
         Ok(solved) => answered(alloc, request, solved),
         Err(fault) => request_reply(alloc, &fault),
     }
-}
-
-fn find_in(alloc: Global, inventory: &Inventory, request: &Request) -> Result<Reply, NoMemory>
-    requires sound { IsSound inventory.now }
-    ensures { IfOk result (IsFound request.now inventory.now) }
-{
-    if !is_built(inventory) {
-        return one_line(alloc, Status::Unbuilt, make_unbuilt_line(alloc)?);
-    }
-    find_built(alloc, inventory, request)
 }
 
 fn find_over(alloc: Global, request: &Request, domains: DomainList) -> Result<Reply, Stop>

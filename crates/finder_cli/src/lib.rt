@@ -22,4 +22,6 @@ pub use top::run;
 pub use words::{Command, End, NameList, WordsFault, parse_words};
 
 #[cfg(test)]
+mod samples;
+#[cfg(test)]
 mod tests;

@@ -1,6 +1,6 @@
 // Lines on words, reads, requests and counts, each made in a fixed buffer and then kept.
 ghost use Rattle.std.specs.Prelude.{◌≡◌, ◌≤◌, ◌++◌, length, IfOk};
-ghost use Rattle.finder_cli.specs.Lines.{usage_line, read_line, unbuilt_line, unknown_port_line, label_not_here_line, survey_line, domain_line, count_line};
+ghost use Rattle.finder_cli.specs.Lines.{usage_line, read_line, unknown_port_line, label_not_here_line, survey_line, domain_line, count_line};
 
 use crate::text::Text;
 use io_edges::Line;
@@ -30,13 +30,6 @@ pub(crate) fn make_read_line(alloc: Global, number: u64, answer: &[u8]) -> Resul
     line.push(answer);
     line.push(b"\n");
     Text::copy(alloc, line.bytes())
-}
-
-#[tactic(auto, unfolding(crate::specs::Lines::unbuilt_line))]
-pub(crate) fn make_unbuilt_line(alloc: Global) -> Result<Text, NoMemory>
-    ensures { IfOk result (λ line. line ≡ unbuilt_line) }
-{
-    Text::copy(alloc, b"unbuilt\n")
 }
 
 #[tactic(auto, unfolding(crate::specs::Lines::unknown_port_line))]

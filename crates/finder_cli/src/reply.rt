@@ -25,7 +25,6 @@ pub enum Status {
     Past,
     Long,
     TooBig,
-    Unbuilt,
 }
 
 fn code_of(status: Status) -> u8
@@ -41,7 +40,6 @@ fn code_of(status: Status) -> u8
         Status::Past => 7,
         Status::Long => 8,
         Status::TooBig => 11,
-        Status::Unbuilt => 12,
     }
 }
 

@@ -1,38 +1,8 @@
 use crate::run;
+use crate::samples::{nested, stored};
 use io_edges::{MemFiles, MemSink};
-use ml_base::NoMemory;
 use std::alloc::{AllocError, Global};
 use std::test::Fail;
-
-const ONE: &str =
-    "{\"elements\":[{\"id\":\"a\",\"isSource\":[\"l\"],\"type\":\"Port\"},{\"id\":\"b\",\"isSink\":[\"l\"],\"type\":\"Port\"},{\"id\":\"l\",\"type\":\"Link\"}],\"format\":1,\"topology\":\"d\"}";
-
-const TWO: &str =
-    "{\"elements\":[{\"id\":\"a\",\"isSource\":[\"l1\",\"l2\"],\"type\":\"Port\"},{\"id\":\"b\",\"isSink\":[\"l1\",\"l2\"],\"type\":\"Port\"},{\"cost\":3,\"id\":\"l1\",\"type\":\"Link\"},{\"cost\":2,\"id\":\"l2\",\"type\":\"Link\"}],\"format\":1,\"topology\":\"d\"}";
-
-const THREE: &str =
-    "{\"elements\":[{\"id\":\"a\",\"isSource\":[\"l\",\"l1\"],\"type\":\"Port\"},{\"id\":\"b\",\"isSink\":[\"l1\"],\"isSource\":[\"l2\"],\"type\":\"Port\"},{\"id\":\"c\",\"isSink\":[\"l2\"],\"isSource\":[\"l3\"],\"type\":\"Port\"},{\"id\":\"z\",\"isSink\":[\"l\",\"l3\"],\"type\":\"Port\"},{\"cost\":9,\"id\":\"l\",\"type\":\"Link\"},{\"id\":\"l1\",\"type\":\"Link\"},{\"id\":\"l2\",\"type\":\"Link\"},{\"id\":\"l3\",\"type\":\"Link\"}],\"format\":1,\"topology\":\"d\"}";
-
-const BIG: &str =
-    "{\"elements\":[{\"id\":\"a\",\"isSource\":[\"l1\"],\"type\":\"Port\"},{\"id\":\"b\",\"isSink\":[\"l1\"],\"isSource\":[\"l2\"],\"type\":\"Port\"},{\"id\":\"c\",\"isSink\":[\"l2\"],\"type\":\"Port\"},{\"cost\":18446744073709551615,\"id\":\"l1\",\"type\":\"Link\"},{\"id\":\"l2\",\"type\":\"Link\"}],\"format\":1,\"topology\":\"d\"}";
-
-const ZERO: &str =
-    "{\"elements\":[{\"id\":\"a\",\"isSink\":[\"l2\"],\"isSource\":[\"l1\"],\"type\":\"Port\"},{\"id\":\"b\",\"isSink\":[\"l1\"],\"isSource\":[\"l2\",\"l3\"],\"type\":\"Port\"},{\"id\":\"c\",\"isSink\":[\"l3\"],\"type\":\"Port\"},{\"cost\":0,\"id\":\"l1\",\"type\":\"Link\"},{\"cost\":0,\"id\":\"l2\",\"type\":\"Link\"},{\"cost\":0,\"id\":\"l3\",\"type\":\"Link\"}],\"format\":1,\"topology\":\"d\"}";
-
-const TUNNEL: &str =
-    "{\"elements\":[{\"encoding\":\"eth\",\"id\":\"c1\",\"type\":\"Port\"},{\"encoding\":\"otn\",\"hasService\":[\"ad\"],\"id\":\"s1\",\"isSource\":[\"t\"],\"type\":\"Port\"},{\"encoding\":\"otn\",\"hasService\":[\"de\"],\"id\":\"s2\",\"isSink\":[\"t\"],\"type\":\"Port\"},{\"encoding\":\"eth\",\"id\":\"c2\",\"type\":\"Port\"},{\"adaptationFunction\":\"gfp\",\"id\":\"ad\",\"providesPort\":[\"c1\"],\"type\":\"AdaptationService\"},{\"adaptationFunction\":\"gfp\",\"id\":\"de\",\"providesPort\":[\"c2\"],\"type\":\"DeadaptationService\"},{\"id\":\"t\",\"type\":\"Link\"}],\"format\":1,\"topology\":\"d\"}";
-
-const E: &str =
-    "{\"elements\":[{\"id\":\"m\",\"type\":\"Link\"},{\"id\":\"a\",\"type\":\"Port\"}],\"format\":1,\"topology\":\"e\"}";
-
-const NODE: &str =
-    "{\"elements\":[{\"id\":\"a\",\"type\":\"Port\"},{\"id\":\"b\",\"type\":\"Port\"},{\"hasInboundPort\":[\"a\"],\"hasOutboundPort\":[\"b\"],\"hasService\":[\"s\"],\"id\":\"n\",\"type\":\"Node\"},{\"id\":\"s\",\"type\":\"SwitchingService\"}],\"format\":1,\"topology\":\"d\"}";
-
-const MIXED: &str =
-    "{\"elements\":[{\"id\":\"a\",\"encoding\":\"eth\",\"isSource\":[\"l\"],\"type\":\"Port\"},{\"id\":\"b\",\"encoding\":\"otn\",\"isSink\":[\"l\"],\"type\":\"Port\"},{\"id\":\"l\",\"type\":\"Link\"}],\"format\":1,\"topology\":\"d\"}";
-
-const WRONG: &str =
-    "{\"elements\":[{\"id\":\"a\",\"isSource\":[\"b\"],\"type\":\"Port\"},{\"id\":\"b\",\"type\":\"Port\"}],\"format\":1,\"topology\":\"d\"}";
 
 fn words_of(alloc: Global, text: &str) -> Result<Vec<String>, AllocError> {
     let mut words = Vec::new(alloc);
@@ -40,26 +10,6 @@ fn words_of(alloc: Global, text: &str) -> Result<Vec<String>, AllocError> {
         words.push(String::from_str(alloc, word)?)?;
     }
     Ok(words)
-}
-
-fn stored(alloc: Global) -> Result<MemFiles, NoMemory> {
-    let mut files = MemFiles::new(alloc);
-    let all = [
-        ("one.json", ONE),
-        ("two.json", TWO),
-        ("three.json", THREE),
-        ("big.json", BIG),
-        ("zero.json", ZERO),
-        ("tunnel.json", TUNNEL),
-        ("e.json", E),
-        ("node.json", NODE),
-        ("mixed.json", MIXED),
-        ("wrong.json", WRONG),
-    ];
-    for (name, text) in all {
-        files.put(name, text.as_bytes())?;
-    }
-    Ok(files)
 }
 
 /// Whether the words over these files end with this status and print this text.
@@ -121,6 +71,36 @@ fn searches(rt: HostRuntime) -> Result<(), Fail> {
             "circuit 1\nrequest a any c any\noutcome found 0 2\nhop 1 link l1 a - b - d\nhop 2 link l3 b - c - d\nend\n",
         ),
         (
+            "find c1 any c2 any tunnel.json",
+            0,
+            "circuit 1\nrequest c1 any c2 any\noutcome found 3 3\nhop 1 adapt ad c1 - s1 - d\nhop 2 link t s1 - s2 - d\nhop 3 deadapt de s2 - c2 - d\nend\n",
+        ),
+        (
+            "find c1 any c2 any other.json",
+            1,
+            "circuit 1\nrequest c1 any c2 any\noutcome none\nend\n",
+        ),
+        (
+            "find c1 any c2 any labelled.json",
+            0,
+            "circuit 1\nrequest c1 any c2 any\noutcome found 3 3\nhop 1 adapt ad c1 105 s1 - d\nhop 2 link t s1 - s2 - d\nhop 3 deadapt de s2 - c2 105 d\nend\n",
+        ),
+        (
+            "find x1 any y1 any again.json",
+            0,
+            "circuit 1\nrequest x1 any y1 any\noutcome found 6 6\nhop 1 adapt f x1 - x0 - d\nhop 2 link l x0 - y0 - d\nhop 3 deadapt u y0 - m1 - d\nhop 4 adapt g m1 - x0 - d\nhop 5 link l x0 - y0 - d\nhop 6 deadapt v y0 - y1 - d\nend\n",
+        ),
+        (
+            "find p 100 q 200 vlan.json",
+            1,
+            "circuit 1\nrequest p 100 q 200\noutcome none\nend\n",
+        ),
+        (
+            "find p 100 q 200 swap.json",
+            0,
+            "circuit 1\nrequest p 100 q 200\noutcome found 1 1\nhop 1 cross s p 100 q 200 d\nend\n",
+        ),
+        (
             "find a any b any node.json",
             0,
             "circuit 1\nrequest a any b any\noutcome found 1 1\nhop 1 cross s a - b - d\nend\n",
@@ -144,7 +124,11 @@ fn refusals(rt: HostRuntime) -> Result<(), Fail> {
     let cases = [
         ("find a any q any one.json", 4, "request unknown-port q\n"),
         ("find a 7 b any one.json", 4, "request label-not-here a 7\n"),
-        ("find c1 any c2 any tunnel.json", 12, "unbuilt\n"),
+        (
+            "find p 7 q any vlan.json",
+            4,
+            "request label-not-here p 7\n",
+        ),
         (
             "survey one.json one.json",
             3,
@@ -206,5 +190,28 @@ fn failing_reads(rt: HostRuntime) -> Result<(), Fail> {
         files.fail_call(number)?;
         assert!(rt; ends_so(alloc, words, &mut files, 5, printed)?);
     }
+    Ok(())
+}
+
+#[test]
+fn a_circuit_that_is_too_long(rt: HostRuntime) -> Result<(), Fail> {
+    let alloc = rt.alloc();
+    let mut files = MemFiles::new(alloc);
+    let text = nested(alloc)?;
+    files.put("nested.json", text.as_bytes())?;
+    let words = "find xN any yN any nested.json";
+    let printed = "circuit 1\nrequest xN any yN any\noutcome long 81916 81916\nend\n";
+    assert!(rt; ends_so(alloc, words, &mut files, 8, printed)?);
+    Ok(())
+}
+
+#[test]
+fn a_file_that_is_too_big(rt: HostRuntime) -> Result<(), Fail> {
+    let alloc = rt.alloc();
+    let mut files = MemFiles::new(alloc);
+    let mut bytes = Vec::new(alloc);
+    bytes.resize(16_777_217, 0x20u8)?;
+    files.put("big.json", bytes.as_slice())?;
+    assert!(rt; ends_so(alloc, "survey big.json", &mut files, 11, "read 1 too-big\n")?);
     Ok(())
 }

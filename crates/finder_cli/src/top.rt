@@ -3,7 +3,7 @@ ghost use Rattle.io_edges.specs.Counts.{Rose};
 ghost use Rattle.finder_cli.specs.Answers.{Answers, CommandAnswers};
 ghost use Rattle.finder_cli.specs.Lines.{usage_line};
 ghost use Rattle.finder_cli.specs.Printed.{PrintsWhole, PrintsFront};
-ghost use Rattle.finder_cli.specs.Sentences.{CountsFiles, FindsCircuit, FindsFault, FindsLong, FindsNone, FindsPast, FindsUnbuilt, FindsUnknown, FindsUsage, IsNotRead, IsTooLarge};
+ghost use Rattle.finder_cli.specs.Sentences.{CountsFiles, FindsCircuit, FindsFault, FindsLong, FindsNone, FindsPast, FindsUnknown, FindsUsage, IsNotRead, IsTooLarge};
 ghost use Rattle.finder_cli.specs.Status.{code};
 ghost use Rattle.finder_cli.specs.Through.{Gives, IsText};
 ghost use Rattle.finder_cli.specs.Words.{NamesFewFiles};
@@ -73,12 +73,11 @@ pub fn run<F: Files, K: Sink>(alloc: Global, words: &[String], files: &mut F, ou
     ensures past { FindsPast words.now (F.store files.old) (F.store files.new) result }
     ensures long { FindsLong words.now (F.store files.old) (F.store files.new) result }
 
-    // 2, 3, 4 and 12: exactly where the words spell no command, where the files are no accepted topology, where the request is not
-    // known to it, and where the search does not cover it yet.
+    // 2, 3 and 4: exactly where the words spell no command, where the files are no accepted topology, and where the request is not
+    // known to it.
     ensures usage { FindsUsage words.now result }
     ensures fault { FindsFault words.now (F.store files.old) (F.store files.new) result }
     ensures unknown { FindsUnknown words.now (F.store files.old) (F.store files.new) result }
-    ensures unbuilt { FindsUnbuilt words.now (F.store files.old) (F.store files.new) result }
 
     // 5 and 11: the last read of the run is of a named file, which is not there or failed, or is too big.
     ensures not_read { result ≡ 5 → IsNotRead words.now (F.store files.old) (F.store files.new) }

@@ -1,8 +1,3 @@
-mod Plain
-mod Listed
-mod Named
-mod Joined
-mod Lifted
-mod Outcome
 mod Refused
-mod Walked
+mod Outcome
+mod HopLists

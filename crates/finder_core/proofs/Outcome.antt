@@ -1,169 +1,151 @@
--- Walks of a request as trails, and the outcome.
-use Rattle.std.proofs.Common.{◌≡◌, ℕ, ◌+◌, ◌<◌, ◌≤◌, ◌^◌, ◌⊎◌, inl, inr, List, [], ◌∷◌, ◌++◌, Bool, true, false, cond, Option, None, Some, length, min, nat_lt, refl, sym, ◌∙◌, ap, subst, arith, Contains}
-use Rattle.std.specs.Prelude.{slice_get, MatchOption}
-use Rattle.std.proofs.lemmas.Bool.{cases_lt, cond-true, cond-false, lt-ltb, le-ltb, ltb-true, ltb-false}
+-- A cheapest segment of the machine of a request tells its outcome.
+use Rattle.std.proofs.Common.{◌≡◌, ℕ, ◌<◌, ◌≤◌, ◌^◌, ◌⊎◌, inl, inr, List, [], length, min, nat_lt, refl, sym, ◌∙◌, ap, subst, arith, Contains}
+use Rattle.std.proofs.lemmas.Bool.{cases_lt, cond-true, cond-false, lt-ltb, le-ltb}
+use Rattle.std.proofs.lemmas.Option.{slice_get_within}
 use Rattle.std.proofs.lemmas.Grind.{common_steps}
-use Rattle.ml_base.specs.declared.numbers.Wish.{Wish}
-use Rattle.ml_base.specs.declared.numbers.Wish.TheVariants.{Any}
+use Rattle.ml_base.specs.Weight.{FullWeight, IsCappedAtMost, cap}
+use Rattle.ml_base.specs.declared.numbers.StateNo.{StateNo}
+use Rattle.ml_base.specs.declared.numbers.Root.TheVariants as root
 use Rattle.ml_base.specs.declared.weight.Weight.{Weight}
 use Rattle.ml_base.specs.declared.weight.Weight.TheVariants as weight
-use Rattle.ml_base.specs.Weight.{FullWeight, IsAtMost, IsCappedAtMost, cap}
+use Rattle.adapt_machine.specs.Machine.{MachineValue}
+use Rattle.adapt_machine.specs.Walks.{full_weight_of}
+use Rattle.segment_grammar.specs.Reached.{IsReached, IsSegmentUnder}
+use Rattle.deriv_arena.specs.declared.Deriv.{Deriv}
+use Rattle.deriv_arena.specs.Derivation.{kept_weight, unfolding_of}
+use Rattle.knuth_search.specs.Settled.{IsBest}
 use Rattle.circuit_spec.specs.declared.hops.Hop.{Hop}
 use Rattle.circuit_spec.specs.declared.hops.Outcome.{Outcome}
 use Rattle.circuit_spec.specs.declared.hops.Outcome.TheVariants.{Found, NoWalk, Past, Long}
 use Rattle.circuit_spec.specs.declared.hops.Request.{Request}
 use Rattle.circuit_spec.specs.declared.hops.TheConstants.{HOP_LIMIT}
-use Rattle.circuit_spec.specs.Faults.{duplicate_ids}
-use Rattle.circuit_spec.specs.Network.{Name, Topology, Port, IsClass, elements_of, ports}
-use Rattle.circuit_spec.specs.Steps.{Ends, IsAllowed, IsLeastWeight, IsOutcome, IsWished, Joins, Run, Walk, unit_at, weight_of}
-use Rattle.edge_search.specs.declared.edges.Edge.{Edge}
-use Rattle.edge_search.specs.Graph.{IsCheapest, Trail, trail_weight}
-use Rattle.finder_core.specs.Built.{IsBuilt}
-use Rattle.finder_core.specs.Joining.{IsGraphOf, IsJoinedBy}
-use Rattle.finder_core.specs.Outcomes.{IsBest, outcome_of}
-use Rattle.finder_core.specs.Solved.{AreEnds, AreHopsOf, IsClassOf, IsListed}
-use Rattle.finder_core.proofs.Lifted.{run_edges, trail_hops, trail_joined, trail_run, trail_weights}
-use Rattle.finder_core.proofs.Listed.{contained_among}
-use Rattle.finder_core.proofs.Named.{one_class, same_at}
-use Rattle.finder_core.proofs.Plain.{no_type}
+use Rattle.circuit_spec.specs.CappedOutcome.{IsCappedOutcome}
+use Rattle.circuit_spec.specs.Faults.{IsSound}
+use Rattle.circuit_spec.specs.Network.{Topology}
+use Rattle.circuit_spec.specs.Segments.{request, IsWalkOverKept}
+use Rattle.circuit_spec.specs.Steps.{IsLeastCapped, IsOutcome, weight_of}
+use Rattle.circuit_spec.proofs.CappedWeights.{cap_known, exact_outcome}
+use Rattle.circuit_spec.proofs.KeptWalks.{kept_outcome, segment_walk, walk_segment}
+use Rattle.kept_table.specs.Table.{keeping_of}
+use Rattle.machine_build.specs.Built.{BuiltValue}
+use Rattle.machine_lift.specs.Lift.{AreHopsAt, AreLifted}
+use Rattle.machine_lift.proofs.Lifted.{lifted}
+use Rattle.finder_core.specs.Outcomes.{IsCheapestWalk, IsListable, IsMachineOf, outcome_of}
+use Rattle.finder_core.specs.Solved.{IsListed}
 
-module _ (T : Topology) (r : Request) (once : duplicate_ids T ≡ []) (built : IsBuilt T) (G : List (List Edge)) (n : ℕ) (whole : length (elements_of T) ≡ n) (is : IsGraphOf T n G)
-    (from to : ℕ) (are : AreEnds T r from to) where
-  allowed : (id : Name) (number : ℕ) (wish : Wish) → wish ≡ Any → (c : IsClassOf T id number) → IsAllowed T id wish c.class None
-  allowed id number wish any c = record {
-    place = record { is_class = c.is_class; is_open = no_type T number c.class built c.at };
-    wished = subst (λ w. IsWished w None) (sym any) tt;
+-- The outcome of a least capped weight
+
+least_outcome : (T : Topology) (P : List Hop → Type 0) (w : Weight) → IsLeastCapped T P w → IsCappedOutcome T P (outcome_of w)
+least_outcome T P weight.Past least = least
+least_outcome T P (weight.Known cost hops) least = go (cases_lt HOP_LIMIT hops)
+  where
+    go : (HOP_LIMIT < hops) ⊎ (hops ≤ HOP_LIMIT) → IsCappedOutcome T P (outcome_of (weight.Known cost hops))
+    go (inl l) = subst (λ o. IsCappedOutcome T P o) (sym (cond-true (nat_lt HOP_LIMIT hops) (Long cost hops) (Found cost hops) (lt-ltb HOP_LIMIT hops l))) (least, l)
+    go (inr l) = subst (λ o. IsCappedOutcome T P o) (sym (cond-false (nat_lt HOP_LIMIT hops) (Long cost hops) (Found cost hops) (le-ltb HOP_LIMIT hops l))) (least, l)
+
+module _ (T : Topology) (r : Request) (b : BuiltValue) (sound : IsSound T) (is : IsMachineOf T r b) where
+  lift : AreLifted T r b
+  lift = lifted T r is.table is.kept b is.built
+
+  -- what holds of the walks over kept labels holds of all walks
+  all_walks : (o : Outcome) → IsCappedOutcome T (IsWalkOverKept T r) o → IsOutcome T r o
+  all_walks o capped = exact_outcome T r o (kept_outcome T r (keeping_of is.table) sound is.kept.keepers o capped)
+
+  -- the hops of a segment to a target are a walk
+  segment_walks : (state : StateNo) (ks : List ℕ) → Contains b.targets state → IsSegmentUnder b.machine.steps b.starts root.Request ks state → (hops : List Hop) → AreHopsAt T b ks hops → IsWalkOverKept T r hops × (weight_of T hops ≡ full_weight_of b.machine.steps ks)
+  segment_walks state ks listed segment hops are =
+      let place = lift.targets.only state listed in
+      let up = lift.hops root.Request ks state segment request place.0 hops tt place.1 are in
+      (segment_walk T r hops (place.0, place.2, up.0), up.1)
+
+  -- each walk over kept labels is of such hops
+  walk_steps : (hops : List Hop) → IsWalkOverKept T r hops → (state : StateNo) × Contains b.targets state × ((ks : List ℕ) × IsSegmentUnder b.machine.steps b.starts root.Request ks state × AreHopsAt T b ks hops)
+  walk_steps hops walk =
+      let to = walk_segment T r hops walk in
+      let state = lift.targets.all to.0 to.1 in
+      (state.0, state.2, lift.steps request hops to.0 to.2 root.Request state.0 tt state.1)
+
+  least_walk : (d : Deriv) → IsBest b.machine.steps b.starts b.targets d → IsLeastCapped T (IsWalkOverKept T r) (kept_weight d)
+  least_walk d best =
+      let made = lift.made root.Request (unfolding_of d) best.target best.cheapest.segment in
+      let walk = segment_walks best.target (unfolding_of d) best.listed best.cheapest.segment made.0 made.1 in
+      record {
+        hops = made.0;
+        holds = walk.0;
+        weight = ap cap walk.1 ∙ best.cheapest.weight;
+        least = λ others o.
+            let s = walk_steps others o in
+            let same = (segment_walks s.0 s.2.0 s.1 s.2.1 others s.2.2).1 in
+            subst (λ v. IsCappedAtMost (kept_weight d) v) (sym (ap cap same)) (best.least s.0 s.2.0 s.1 s.2.1);
+      }
+
+  pub cheapest_walk : (d : Deriv) → IsBest b.machine.steps b.starts b.targets d → IsCheapestWalk T r b (kept_weight d) (unfolding_of d)
+  cheapest_walk d best = record {
+    within = lift.within root.Request (unfolding_of d) best.target best.cheapest.segment;
+    weighs = best.cheapest.weight;
+    walks = λ hops are.
+        let walk = segment_walks best.target (unfolding_of d) best.listed best.cheapest.segment hops are in
+        ((walk.0.ends, walk.0.joins), walk.1);
+    outcome = all_walks (outcome_of (kept_weight d)) (least_outcome T (IsWalkOverKept T r) (kept_weight d) (least_walk d best));
   }
 
-  ends : Ends T r
-  ends = record {
-    from = are.from_class.class;
-    from_label = None;
-    to = are.to_class.class;
-    to_label = None;
-    from_allowed = allowed r.from from r.from_wish are.from_any are.from_class;
-    to_allowed = allowed r.to to r.to_wish are.to_any are.to_class;
-  }
+  pub no_walk : ((target : StateNo) → Contains b.targets target → IsReached b.machine.steps b.starts root.Request target → ⊥) → IsOutcome T r NoWalk
+  no_walk none = all_walks NoWalk (λ hops walk. let s = walk_steps hops walk in none s.0 s.1 (s.2.0, s.2.1))
 
-  trail_joins : (edges : List Edge) (hops : List Hop) → Trail G from edges to → AreHopsOf T edges hops → Run T (unit_at are.from_class.class None []) hops (unit_at are.to_class.class None [])
-  trail_joins edges hops t a =
-      let run = trail_run T once built G n whole is from edges to hops t a are.from_class.class are.from_class.at [] in
-      let same : run.0 ≡ are.to_class.class = same_at (ports T) to run.0 are.to_class.class run.1 are.to_class.at in
-      subst (λ c. Run T (unit_at are.from_class.class None []) hops (unit_at c None [])) same run.2
+  -- the numbers of the starts are those of states
+  pub starts_within : (state : StateNo) → Contains b.starts state → state.0 < b.machine.states
+  starts_within state c =
+      let at = (lift.starts.only state c).1 in
+      let below : state.0 < length b.places = slice_get_within b.places state.0 (lift.starts.only state c).0 at in
+      omega (arith, below, is.built.states)
 
-  trail_walk : (edges : List Edge) (hops : List Hop) → Trail G from edges to → AreHopsOf T edges hops → Walk T r hops
-  unfolding ends
-  trail_walk edges hops t a = (ends, trail_joins edges hops t a)
+-- What is said of the parts of a machine
 
-  walk_trail : (hops : List Hop) → Walk T r hops → (edges : List Edge) × Trail G from edges to × (trail_weight edges ≡ weight_of T hops)
-  walk_trail hops w =
-      let first : w.0.from ≡ are.from_class.class = one_class T r.from w.0.from are.from_class.class w.0.from_allowed.place.is_class are.from_class.is_class in
-      let last : w.0.to ≡ are.to_class.class = one_class T r.to w.0.to are.to_class.class w.0.to_allowed.place.is_class are.to_class.is_class in
-      run_edges T once built G n whole is w.0.from w.0.to from to w.0.from_label w.0.to_label hops [] [] (are.from_class.at ∙ ap Some (sym first)) (are.to_class.at ∙ ap Some (sym last)) w.1
+pub best_of : (b : BuiltValue) (m : MachineValue) (starts targets : List StateNo) (d : Deriv) → m ≡ b.machine → starts ≡ b.starts → targets ≡ b.targets → IsBest m.steps starts targets d → IsBest b.machine.steps b.starts b.targets d
+best_of b m starts targets d e f g best =
+    subst (λ (x : MachineValue). IsBest x.steps b.starts b.targets d) e (subst (λ x. IsBest m.steps x b.targets d) f (subst (λ x. IsBest m.steps starts x d) g best))
 
-  pub is_best : (w : Weight) (edges : List Edge) → IsCheapest G from to w edges → IsBest T r w edges
-  is_best w edges c = record {
-    joined = λ edge k. trail_joined T once built G n whole is from edges to c.leads edge (contained_among edges edge k);
-    walks = λ hops a. (trail_walk edges hops c.leads a, trail_weights T once built G n whole is from edges to hops c.leads a);
-    walked = trail_hops T edges (trail_joined T once built G n whole is from edges to c.leads);
-    weight = c.weight;
-    counted = c.counted;
-    least = λ others o.
-        let t : (edges : List Edge) × Trail G from edges to × (trail_weight edges ≡ weight_of T others) = walk_trail others o in
-        subst (λ k. IsCappedAtMost w (cap k)) t.2 (c.least t.0 t.1);
-  }
+-- no target is reached
+abbrev pub NoneReached : MachineValue → List StateNo → List StateNo → Type 0
+NoneReached m starts targets = (target : StateNo) → Contains targets target → IsReached m.steps starts root.Request target → ⊥
 
-  pub no_walk : ((edges : List Edge) → Trail G from edges to → ⊥) → (hops : List Hop) → Walk T r hops → ⊥
-  no_walk none hops w = let t : (edges : List Edge) × Trail G from edges to × (trail_weight edges ≡ weight_of T hops) = walk_trail hops w in none t.0 t.1
+pub none_reached : (b : BuiltValue) (m : MachineValue) (starts targets : List StateNo) → m ≡ b.machine → starts ≡ b.starts → targets ≡ b.targets → NoneReached m starts targets → NoneReached b.machine b.starts b.targets
+none_reached b m starts targets e f g none = subst (λ x. NoneReached x b.starts b.targets) e (subst (λ x. NoneReached m x b.targets) f (subst (λ x. NoneReached m starts x) g none))
 
--- What a capped weight says of the whole one
+-- What is listed
 
-cap-known : (w : FullWeight) → w.cost < 2 ^ 64 → cap w ≡ weight.Known w.cost (min w.hops (2 ^ 40))
-cap-known w l = grind (arith, common_steps)
-
-cap-past : (w : FullWeight) → 2 ^ 64 ≤ w.cost → cap w ≡ weight.Past
-cap-past w l = grind (arith, common_steps)
-
--- a known weight
-record IsExactly (w : FullWeight) (cost hops : ℕ) : Type 0 where
-  pub same_cost : w.cost ≡ cost
-  pub same_hops : w.hops ≡ hops
-  pub small : cost < 2 ^ 64
-
-exactly : (w : FullWeight) (cost hops : ℕ) → w.hops ≤ 2 ^ 40 → cap w ≡ weight.Known cost hops → IsExactly w cost hops
-exactly w cost hops counted e = go (cases_lt w.cost (2 ^ 64))
+-- a found outcome is of a weight within the limit
+found_weight : (w : Weight) (cost hops : ℕ) → Found cost hops ≡ outcome_of w → (w ≡ weight.Known cost hops) × (hops ≤ HOP_LIMIT)
+found_weight weight.Past cost hops e = absurd (cc)
+found_weight (weight.Known c h) cost hops e = go (cases_lt HOP_LIMIT h)
   where
-    go : (w.cost < 2 ^ 64) ⊎ (2 ^ 64 ≤ w.cost) → IsExactly w cost hops
-    go (inl l) =
-        let k : weight.Known w.cost (min w.hops (2 ^ 40)) ≡ weight.Known cost hops = sym (cap-known w l) ∙ e in
-        let c : w.cost ≡ cost = cc in
-        let h : min w.hops (2 ^ 40) ≡ hops = cc in
-        record { same_cost = c; same_hops = omega arith; small = omega arith }
-    go (inr l) = let k : weight.Past ≡ weight.Known cost hops = sym (cap-past w l) ∙ e in absurd (cc)
+    go : (HOP_LIMIT < h) ⊎ (h ≤ HOP_LIMIT) → (weight.Known c h ≡ weight.Known cost hops) × (hops ≤ HOP_LIMIT)
+    go (inl l) = let k : Found cost hops ≡ Long c h = e ∙ cond-true (nat_lt HOP_LIMIT h) (Long c h) (Found c h) (lt-ltb HOP_LIMIT h l) in absurd (cc)
+    go (inr l) =
+        let k : Found cost hops ≡ Found c h = e ∙ cond-false (nat_lt HOP_LIMIT h) (Long c h) (Found c h) (le-ltb HOP_LIMIT h l) in
+        let costs : c ≡ cost = cc in
+        let many : h ≡ hops = cc in
+        (cc, subst (λ n. n ≤ HOP_LIMIT) many l)
 
-past_cost : (w : FullWeight) → IsCappedAtMost weight.Past (cap w) → 2 ^ 64 ≤ w.cost
-past_cost w m = go (cases_lt w.cost (2 ^ 64))
+pub found_listable : (w : Weight) (cost hops : ℕ) → Found cost hops ≡ outcome_of w → IsListable w
+found_listable w cost hops e = let k = found_weight w cost hops e in subst IsListable (sym k.0) k.1
+
+exact_weight : (w : FullWeight) (cost hops : ℕ) → cap w ≡ weight.Known cost hops → hops ≤ HOP_LIMIT → w ≡ record { cost = cost; hops = hops }
+exact_weight w cost hops e within =
+    let k = cap_known w cost hops e in
+    let make : ℕ → ℕ → FullWeight = λ c h. record { cost = c; hops = h } in
+    let few : w.hops ≡ hops = exact_hops w.hops hops k.2 within in
+    ap (λ c. make c w.hops) k.1 ∙ ap (λ h. make cost h) few
   where
-    go : (w.cost < 2 ^ 64) ⊎ (2 ^ 64 ≤ w.cost) → 2 ^ 64 ≤ w.cost
-    go (inl l) = absurd (subst (λ k. IsCappedAtMost weight.Past k) (cap-known w l) m)
-    go (inr l) = l
+    exact_hops : (n h : ℕ) → min n (2 ^ 40) ≡ h → h ≤ HOP_LIMIT → n ≡ h
+    exact_hops n h e below = grind (arith, common_steps)
 
-at_most_full : (cost hops : ℕ) (w : FullWeight) → cost < 2 ^ 64 → IsCappedAtMost (weight.Known cost hops) (cap w) → IsAtMost (record { cost = cost; hops = hops }) w
-at_most_full cost hops w small m = go (cases_lt w.cost (2 ^ 64))
-  where
-    by : (cost < w.cost) ⊎ ((cost ≡ w.cost) × (hops ≤ min w.hops (2 ^ 40))) → IsAtMost (record { cost = cost; hops = hops }) w
-    by (inl l) = inl l
-    by (inr e) = inr (e.0, omega (arith, e.1))
-
-    go : (w.cost < 2 ^ 64) ⊎ (2 ^ 64 ≤ w.cost) → IsAtMost (record { cost = cost; hops = hops }) w
-    go (inl l) = by (subst (λ k. IsCappedAtMost (weight.Known cost hops) k) (cap-known w l) m)
-    go (inr l) = inl (omega arith)
-
-module _ (T : Topology) (r : Request) (edges : List Edge) where
-  least_known : (cost hops : ℕ) → IsBest T r (weight.Known cost hops) edges → IsLeastWeight T r (record { cost = cost; hops = hops }) × (cost < 2 ^ 64) × (trail_weight edges ≡ record { cost = cost; hops = hops })
-  least_known cost hops b =
-      let x : IsExactly (trail_weight edges) cost hops = exactly (trail_weight edges) cost hops b.counted b.weight in
-      let make : ℕ → ℕ → FullWeight = λ c h. record { cost = c; hops = h } in
-      let same : trail_weight edges ≡ make cost hops = ap (λ k. make k (length edges)) x.same_cost ∙ ap (λ k. make cost k) x.same_hops in
-      let walk = b.walks b.walked.0 b.walked.1 in
-      (record { hops = b.walked.0; walk = walk.0; weight = walk.1 ∙ same; least = λ others o. at_most_full cost hops (weight_of T others) x.small (b.least others o) }, x.small, same)
-
-  best_outcome : (w : Weight) → IsBest T r w edges → IsOutcome T r (outcome_of w)
-  best_outcome weight.Past b =
-      ((b.walked.0, (b.walks b.walked.0 b.walked.1).0), λ hops o. past_cost (weight_of T hops) (b.least hops o))
-  best_outcome (weight.Known cost hops) b = go (cases_lt HOP_LIMIT hops)
-    where
-      go : (HOP_LIMIT < hops) ⊎ (hops ≤ HOP_LIMIT) → IsOutcome T r (cond (nat_lt HOP_LIMIT hops) (Long cost hops) (Found cost hops))
-      go (inl l) =
-          let walk = b.walks b.walked.0 b.walked.1 in
-          subst (λ o. IsOutcome T r o) (sym (cond-true (nat_lt HOP_LIMIT hops) (Long cost hops) (Found cost hops) (lt-ltb HOP_LIMIT hops l)))
-          (record { hops = b.walked.0; holds = walk.0; weight = ap cap walk.1 ∙ b.weight; least = b.least }, l)
-      go (inr l) =
-          let k = least_known cost hops b in
-          subst (λ o. IsOutcome T r o) (sym (cond-false (nat_lt HOP_LIMIT hops) (Long cost hops) (Found cost hops) (le-ltb HOP_LIMIT hops l)))
-          (k.0, k.1, l)
-
-  -- the outcome of the least weight
-  pub is_outcome : (w : Weight) (o : Outcome) → IsBest T r w edges → o ≡ outcome_of w → IsOutcome T r o
-  is_outcome w o b e = subst (λ v. IsOutcome T r v) (sym e) (best_outcome w b)
-
-  found_listed : (w : Weight) (cost hops : ℕ) (list : List Hop) → IsBest T r w edges → Found cost hops ≡ outcome_of w → AreHopsOf T edges list → Walk T r list × (weight_of T list ≡ record { cost = cost; hops = hops })
-  found_listed weight.Past cost hops list b e a = absurd (cc)
-  found_listed (weight.Known c h) cost hops list b e a = go (cases_lt HOP_LIMIT h)
-    where
-      go : (HOP_LIMIT < h) ⊎ (h ≤ HOP_LIMIT) → Walk T r list × (weight_of T list ≡ record { cost = cost; hops = hops })
-      go (inl l) = let k : Found cost hops ≡ Long c h = e ∙ cond-true (nat_lt HOP_LIMIT h) (Long c h) (Found c h) (lt-ltb HOP_LIMIT h l) in absurd (cc)
-      go (inr l) =
-          let k : Found cost hops ≡ Found c h = e ∙ cond-false (nat_lt HOP_LIMIT h) (Long c h) (Found c h) (le-ltb HOP_LIMIT h l) in
-          let costs : c ≡ cost = cc in
-          let many : h ≡ hops = cc in
-          let make : ℕ → ℕ → FullWeight = λ c h. record { cost = c; hops = h } in
-          let w = b.walks list a in
-          (w.0, w.1 ∙ (least_known c h b).2 ∙ ap (λ k. make k h) costs ∙ ap (λ k. make cost k) many)
-
-  -- the listed hops are of the outcome
-  pub is_listed : (w : Weight) (cost hops : ℕ) (list : List Hop) → IsBest T r w edges → Found cost hops ≡ outcome_of w → AreHopsOf T edges list → IsListed T r (Found cost hops) list
-  is_listed w cost hops list b e a = found_listed w cost hops list b e a
+-- the listed hops are of the outcome
+pub is_listed : (T : Topology) (r : Request) (b : BuiltValue) (w : Weight) (ks : List ℕ) (cost hops : ℕ) (list : List Hop) → IsCheapestWalk T r b w ks → Found cost hops ≡ outcome_of w → AreHopsAt T b ks list → IsListed T r (Found cost hops) list
+is_listed T r b w ks cost hops list c e are =
+    let walk = c.walks list are in
+    let k = found_weight w cost hops e in
+    (walk.0, walk.1 ∙ exact_weight (full_weight_of b.machine.steps ks) cost hops (c.weighs ∙ k.0) k.1)
 
 -- no hops are listed where none are found
 pub none_listed : (T : Topology) (r : Request) (o : Outcome) (list : List Hop) → ((cost hops : ℕ) → o ≡ Found cost hops → ⊥) → list ≡ [] → IsListed T r o list
@@ -171,12 +153,3 @@ none_listed T r (Found cost hops) list other empty = absurd (other cost hops ref
 none_listed T r NoWalk list other empty = empty
 none_listed T r Past list other empty = empty
 none_listed T r (Long cost hops) list other empty = empty
-
--- what a match on an answer says
-pub match_some : {A : Type 0} (o : Option A) (x : A) (N : Type 0) (P : A → Type 0) → MatchOption o N P → o ≡ Some x → P x
-match_some None x N P m e = absurd (cc)
-match_some (Some y) x N P m e = let same : y ≡ x = cc in subst P same m
-
-pub match_none : {A : Type 0} (o : Option A) (N : Type 0) (P : A → Type 0) → MatchOption o N P → o ≡ None → N
-match_none None N P m e = m
-match_none (Some y) N P m e = absurd (cc)

@@ -1,4 +1,2 @@
-pub mod Built
-pub mod Joining
 pub mod Solved
 pub mod Outcomes

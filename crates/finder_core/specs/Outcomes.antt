@@ -1,30 +1,44 @@
--- The outcome of a request, by the least weight of its walks.
-use Rattle.std.specs.Prelude.{◌≡◌, ℕ, ◌≤◌, ◌^◌, List, length, cond, nat_lt}
-use Rattle.std.specs.List.{Contains}
+-- The outcome of a request, by a cheapest segment of its machine.
+use Rattle.std.specs.Prelude.{◌≡◌, ◌<◌, ◌≤◌, ◌++◌, ◌∷◌, [], ℕ, List, cond, length, nat_lt}
+use Rattle.std.specs.List.{AllByRecursion}
 use Rattle.ml_base.specs.declared.weight.Weight.{Weight}
 use Rattle.ml_base.specs.declared.weight.Weight.TheVariants as weight
-use Rattle.ml_base.specs.Weight.{IsCappedAtMost, cap}
+use Rattle.adapt_machine.specs.Walks.{full_weight_of, weight_of as machine_weight}
 use Rattle.circuit_spec.specs.declared.hops.Hop.{Hop}
 use Rattle.circuit_spec.specs.declared.hops.Outcome.{Outcome}
 use Rattle.circuit_spec.specs.declared.hops.Outcome.TheVariants.{Found, Past, Long}
 use Rattle.circuit_spec.specs.declared.hops.Request.{Request}
 use Rattle.circuit_spec.specs.declared.hops.TheConstants.{HOP_LIMIT}
 use Rattle.circuit_spec.specs.Network.{Topology}
-use Rattle.circuit_spec.specs.Steps.{Walk, weight_of}
-use Rattle.edge_search.specs.declared.edges.Edge.{Edge}
-use Rattle.edge_search.specs.Graph.{trail_weight}
-use Rattle.finder_core.specs.Joining.{IsJoinedBy}
-use Rattle.finder_core.specs.Solved.{AreHopsOf}
+use Rattle.circuit_spec.specs.Steps.{IsOutcome, Walk, weight_of}
+use Rattle.kept_table.specs.Table.{IsKeptTable, KeptOfType}
+use Rattle.machine_build.specs.Built.{BuiltValue, IsBuilt, IsHopAt}
+use Rattle.machine_lift.specs.Lift.{AreHopsAt}
+
+-- the machine is built over the kept labels of the request
+pub record IsMachineOf (T : Topology) (r : Request) (b : BuiltValue) : Type 0 where
+  pub table : List KeptOfType
+  pub kept : IsKeptTable T r table
+  pub built : IsBuilt T table r b
 
 abbrev pub outcome_of : Weight → Outcome
 outcome_of weight.Past = Past
 outcome_of (weight.Known cost hops) = cond (nat_lt HOP_LIMIT hops) (Long cost hops) (Found cost hops)
 
--- hops over the edges are a walk of this capped weight, of which no hop is left out, and no walk weighs less
-pub record IsBest (T : Topology) (r : Request) (w : Weight) (edges : List Edge) : Type 0 where
-  pub joined : (edge : Edge) → Contains edges edge → (node : ℕ) × IsJoinedBy T node edge
-  pub walks : (hops : List Hop) → AreHopsOf T edges hops → Walk T r hops × (weight_of T hops ≡ trail_weight edges)
-  pub walked : (hops : List Hop) × AreHopsOf T edges hops
-  pub weight : cap (trail_weight edges) ≡ w
-  pub counted : length edges ≤ 2 ^ 40
-  pub least : (others : List Hop) → Walk T r others → IsCappedAtMost w (cap (weight_of T others))
+-- the weight is within the hop limit
+abbrev pub IsListable : Weight → Type 0
+IsListable weight.Past = ⊥
+IsListable (weight.Known cost hops) = hops ≤ HOP_LIMIT
+
+-- The hops of these steps are a walk, of which this is the capped weight, and the outcome is that of the weight.
+pub record IsCheapestWalk (T : Topology) (r : Request) (b : BuiltValue) (w : Weight) (steps : List ℕ) : Type 0 where
+  pub within : AllByRecursion (λ k. k < length b.machine.steps) steps
+  pub weighs : machine_weight b.machine.steps steps ≡ w
+  pub walks : (hops : List Hop) → AreHopsAt T b steps hops → Walk T r hops × (weight_of T hops ≡ full_weight_of b.machine.steps steps)
+  pub outcome : IsOutcome T r (outcome_of w)
+
+-- the hops have the hop of one step more
+pub record AddsHop (T : Topology) (b : BuiltValue) (k : ℕ) (old new : List Hop) : Type 0 where
+  pub hop : Hop
+  pub is_hop : IsHopAt T b k hop
+  pub added : new ≡ old ++ hop ∷ []

@@ -1,10 +1,12 @@
 ghost use Rattle.std.specs.Prelude.{◌≡◌, IfOk, IfErr, OnOk};
-ghost use Rattle.finder_core.specs.Built.{IsBuilt};
-ghost use Rattle.finder_core.specs.Solved.{AreEnds, IsClassOf, IsRefusal, IsStated, IsUnknown};
+ghost use Rattle.nml_elements.specs.Labels.{is_among};
+ghost use Rattle.circuit_spec.specs.Faults.{IsKnown, IsKnownEnd, IsSound};
+ghost use Rattle.finder_core.specs.Solved.{IsClassOf, IsMissed, IsRefusal, IsUnknown};
 
 use crate::faults::SolveFault;
 use circuit_spec::Request;
 use ml_base::{Id, PortNo, Wish};
+use nml_elements::Labels;
 use nml_inventory::Inventory;
 
 /// The class of the port of the id.
@@ -21,30 +23,37 @@ fn class_of(inventory: &Inventory, id: &Id) -> Result<PortNo, SolveFault>
     }
 }
 
-/// Refuses a wish that states a label, since no class has labels.
-fn check_wish(id: &Id, wish: Wish) -> Result<(), SolveFault>
-    ensures ok { OnOk result (wish ≡ Wish.Any) }
-    ensures err { IfErr result (IsStated id.now wish) }
+/// Whether the label is among the labels.
+fn has_label(labels: &Labels, label: u32) -> bool
+    ensures { result ≡ is_among labels.now label }
 {
-    match wish {
-        Wish::Any => Ok(()),
-        Wish::Value(label) => {
-            let id = id.share()?;
-            Err(SolveFault::LabelNotHere { id, label })
-        }
+    match labels {
+        Labels::Unlabelled => false,
+        Labels::Of { set, .. } => set.has(label),
     }
 }
 
-/// The classes at the ends of a request.
-#[derive(Clone, Copy)]
-pub struct Ends {
-    pub from: PortNo,
-    pub to: PortNo,
+/// Refuses a wish that states a label which the class of its port does not have.
+fn check_wish(inventory: &Inventory, id: &Id, class: PortNo, wish: Wish) -> Result<(), SolveFault>
+    requires sound { IsSound inventory.now }
+    requires class { IsClassOf inventory.now id.now class.0 }
+    ensures ok { OnOk result (IsKnownEnd inventory.now id.now wish) }
+    ensures err { IfErr result (IsMissed inventory.now id.now wish) }
+{
+    let Wish::Value(label) = wish else {
+        return Ok(());
+    };
+    if has_label(inventory.labels_of(class), label) {
+        return Ok(());
+    }
+    let id = id.share()?;
+    Err(SolveFault::LabelNotHere { id, label })
 }
 
-pub fn known_ends(inventory: &Inventory, request: &Request) -> Result<Ends, SolveFault>
-    requires { IsBuilt inventory.now }
-    ensures ok { IfOk result (λ ends. AreEnds inventory.now request.now ends.from.0 ends.to.0) }
+/// Refuses a request that the topology does not know.
+pub fn check_known(inventory: &Inventory, request: &Request) -> Result<(), SolveFault>
+    requires sound { IsSound inventory.now }
+    ensures ok { OnOk result (IsKnown inventory.now request.now) }
     ensures err { IfErr result (IsRefusal inventory.now request.now) }
 {
     let from = match class_of(inventory, &request.from) {
@@ -55,11 +64,11 @@ pub fn known_ends(inventory: &Inventory, request: &Request) -> Result<Ends, Solv
         Ok(class) => class,
         Err(fault) => return Err(fault),
     };
-    if let Err(fault) = check_wish(&request.from, request.from_wish) {
+    if let Err(fault) = check_wish(inventory, &request.from, from, request.from_wish) {
         return Err(fault);
     }
-    if let Err(fault) = check_wish(&request.to, request.to_wish) {
+    if let Err(fault) = check_wish(inventory, &request.to, to, request.to_wish) {
         return Err(fault);
     }
-    Ok(Ends { from, to })
+    Ok(())
 }

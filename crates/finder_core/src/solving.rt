@@ -1,18 +1,22 @@
 ghost use Rattle.std.specs.Prelude.{◌≡◌, IfOk, IfErr, OnOk};
 ghost use Rattle.circuit_spec.specs.Faults.{IsKnown, IsSound};
 ghost use Rattle.circuit_spec.specs.Steps.{IsOutcome};
-ghost use Rattle.finder_core.specs.Built.{IsBuilt};
-ghost use Rattle.finder_core.specs.Outcomes.{IsBest, outcome_of};
-ghost use Rattle.finder_core.specs.Solved.{AreEnds, IsListed, IsRefusal};
+ghost use Rattle.deriv_arena.specs.Derivation.{kept_weight, unfolding_of, IsOver};
+ghost use Rattle.finder_core.specs.Outcomes.{IsCheapestWalk, IsMachineOf, outcome_of};
+ghost use Rattle.finder_core.specs.Solved.{IsListed, IsRefusal};
 
 use crate::faults::SolveFault;
-use crate::joining::edges_of;
-use crate::known::{Ends, known_ends};
-use crate::walking::hops_of;
+use crate::known::check_known;
+use crate::listing::hops_of;
+use bumpalo::Bump;
 use circuit_spec::{HOP_LIMIT, HopList, Outcome, Request};
-use edge_search::{Route, cheapest};
+use deriv_arena::Deriv;
+use kept_table::kept_of;
+use knuth_search::search;
+use machine_build::{Built, build};
 use ml_base::{NoMemory, Weight};
 use nml_inventory::Inventory;
+use segment_grammar::Index;
 use std::alloc::Global;
 
 /// The answer to a request: its outcome, and the hops of a cheapest walk where one is found.
@@ -37,20 +41,23 @@ fn outcome_of(weight: Weight) -> Outcome
     }
 }
 
-/// The answer with this cheapest route.
+/// The answer with this cheapest walk.
 fn answer(
     alloc: Global,
     inventory: &Inventory,
     request: &Request,
-    route: &Route,
+    built: &Built,
+    deriv: &Deriv<'_>,
 ) -> Result<Solved, NoMemory>
-    requires { IsBest inventory.now request.now route.now.weight route.now.edges.items }
+    requires built { IsMachineOf inventory.now request.now built.now }
+    requires over { IsOver built.now.machine.steps deriv.now }
+    requires cheapest { IsCheapestWalk inventory.now request.now built.now (kept_weight deriv.now) (unfolding_of deriv.now) }
     ensures outcome { IfOk result (λ s. IsOutcome inventory.now request.now s.outcome) }
     ensures hops { IfOk result (λ s. IsListed inventory.now request.now s.outcome s.hops) }
 {
-    match outcome_of(route.weight) {
+    match outcome_of(deriv.weight()) {
         Outcome::Found { cost, hops } => {
-            let list = hops_of(alloc, inventory, &route.edges)?;
+            let list = hops_of(alloc, inventory, request, built, deriv)?;
             Ok(Solved {
                 outcome: Outcome::Found { cost, hops },
                 hops: list,
@@ -63,22 +70,26 @@ fn answer(
     }
 }
 
-/// The answer to a request between these classes.
-fn search(
+/// The answer to a request over its machine.
+fn search_machine(
     alloc: Global,
     inventory: &Inventory,
     request: &Request,
-    ends: Ends,
+    built: &Built,
 ) -> Result<Solved, NoMemory>
-    requires built { IsBuilt inventory.now }
-    requires ends { AreEnds inventory.now request.now ends.from.0 ends.to.0 }
+    requires sound { IsSound inventory.now }
+    requires built { IsMachineOf inventory.now request.now built.now }
     ensures outcome { IfOk result (λ s. IsOutcome inventory.now request.now s.outcome) }
     ensures hops { IfOk result (λ s. IsListed inventory.now request.now s.outcome s.hops) }
 {
-    inventory.is_merged();
-    let edges = edges_of(alloc, inventory)?;
-    match cheapest(alloc, &edges, ends.from.0, ends.to.0)? {
-        Some(route) => answer(alloc, inventory, request, &route),
+    let machine = built.machine();
+    let starts = built.starts();
+    let targets = built.targets();
+    let index = Index::new(alloc, machine)?;
+    let arena = Bump::new(alloc);
+    let settled = search(alloc, machine, &index, starts, &arena)?;
+    match settled.best(targets) {
+        Some(deriv) => answer(alloc, inventory, request, built, deriv),
         None => Ok(Solved {
             outcome: Outcome::NoWalk,
             hops: HopList::new(alloc),
@@ -86,7 +97,19 @@ fn search(
     }
 }
 
-/// Answers a request, in a topology without labels and adaptations (`is_built`).
+/// The answer to a known request.
+fn solve_known(alloc: Global, inventory: &Inventory, request: &Request) -> Result<Solved, NoMemory>
+    requires sound { IsSound inventory.now }
+    requires known { IsKnown inventory.now request.now }
+    ensures outcome { IfOk result (λ s. IsOutcome inventory.now request.now s.outcome) }
+    ensures hops { IfOk result (λ s. IsListed inventory.now request.now s.outcome s.hops) }
+{
+    let kept = kept_of(alloc, inventory, request)?;
+    let built = build(alloc, inventory, &kept, request)?;
+    search_machine(alloc, inventory, request, &built)
+}
+
+/// Answers a request.
 ///
 /// # Errors
 ///
@@ -94,16 +117,14 @@ fn search(
 /// set of its port's class, and `NoMemory`.
 pub fn solve(alloc: Global, inventory: &Inventory, request: &Request) -> Result<Solved, SolveFault>
     requires sound { IsSound inventory.now }
-    requires built { IsBuilt inventory.now }
     ensures outcome { IfOk result (λ s. IsOutcome inventory.now request.now s.outcome) }
     ensures hops { IfOk result (λ s. IsListed inventory.now request.now s.outcome s.hops) }
     ensures known { OnOk result (IsKnown inventory.now request.now) }
     ensures fault { IfErr result (IsRefusal inventory.now request.now) }
 {
-    let ends = match known_ends(inventory, request) {
-        Ok(ends) => ends,
-        Err(fault) => return Err(fault),
-    };
-    let solved = search(alloc, inventory, request, ends)?;
+    if let Err(fault) = check_known(inventory, request) {
+        return Err(fault);
+    }
+    let solved = solve_known(alloc, inventory, request)?;
     Ok(solved)
 }

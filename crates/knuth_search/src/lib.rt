@@ -4,6 +4,8 @@
 mod derived;
 mod queue;
 mod run;
+#[cfg(test)]
+mod saturation;
 mod settle;
 mod settled;
 mod table;

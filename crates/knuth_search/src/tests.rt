@@ -1,7 +1,11 @@
 ghost use Rattle.std.specs.Prelude.{◌≡◌, ◌<◌, IfOk};
+ghost use Rattle.std.specs.List.{Contains};
+ghost use Rattle.ml_base.specs.declared.numbers.StateNo.{StateNo};
 
+use crate::saturation::{Small, saturate, small_machine};
 use crate::{Settled, search};
 use adapt_machine::Machine;
+use adapt_machine::MachineKind::{Flat, Pop, Push};
 use bumpalo::Bump;
 use deriv_arena::DerivForm;
 use ml_base::{FrameNo, NoMemory, Root, StateNo, StepNo, Weight};
@@ -125,5 +129,152 @@ fn a_path_of_400_000_states(rt: HostRuntime) -> Result<(), Fail> {
     let last = StateNo(249_999);
     let weight = settled.best(&[last]).map(|deriv| deriv.weight());
     assert_eq!(rt; weight, Some(Weight::known(399_999, 399_999)));
+    Ok(())
+}
+
+/// Whether the search finds what saturation finds: the same pairs with the same weights, a derivation of each weight, and the least
+/// of the weights of all states under the request.
+fn both_agree(alloc: Global, machine: &Machine, starts: &[StateNo]) -> Result<bool, Fail>
+    requires { (a : StateNo) → Contains starts.now a → a.0 < machine.now.states }
+{
+    let Some(slow) = saturate(alloc, machine, starts)? else {
+        return Ok(false);
+    };
+    let arena = Bump::new(alloc);
+    let index = Index::new(alloc, machine)?;
+    let settled = search(alloc, machine, &index, starts, &arena)?;
+    let pots = slow.pots(alloc, machine)?;
+    if settled.potentials().as_slice() != pots.as_slice() {
+        return Ok(false);
+    }
+    for pot in &pots {
+        let derived = settled.derivation(pot.root, pot.state);
+        if derived.map(|deriv| deriv.weight()) != Some(pot.weight) {
+            return Ok(false);
+        }
+        let best = settled.best(&[pot.state]);
+        if best.map(|deriv| deriv.weight()) != slow.weight(Root::Request, pot.state) {
+            return Ok(false);
+        }
+    }
+    Ok(true)
+}
+
+#[test]
+fn search_and_saturation_agree(rt: HostRuntime) -> Result<(), Fail> {
+    let alloc = rt.alloc();
+    let most = 18_446_744_073_709_551_615;
+    let cases: [(&str, u64, u64, &[Small]); 12] = [
+        ("no steps", 2, 0, &[]),
+        (
+            "a loop of no cost",
+            3,
+            1,
+            &[(Flat, 0, 1, 0, 0), (Flat, 1, 0, 0, 0), (Flat, 1, 2, 0, 0)],
+        ),
+        (
+            "pops that are not reached",
+            3,
+            1,
+            &[(Pop, 0, 1, 0, 1), (Pop, 2, 1, 0, 1)],
+        ),
+        (
+            "another frame",
+            4,
+            2,
+            &[(Push, 0, 2, 0, 1), (Flat, 2, 3, 0, 1), (Pop, 3, 1, 1, 1)],
+        ),
+        (
+            "an empty inner part",
+            3,
+            1,
+            &[(Push, 0, 2, 0, 1), (Pop, 2, 1, 0, 1)],
+        ),
+        (
+            "a stack that grows",
+            2,
+            1,
+            &[(Push, 0, 0, 0, 1), (Flat, 0, 1, 0, 1), (Pop, 1, 1, 0, 0)],
+        ),
+        (
+            "a cost of 2^64 - 1",
+            3,
+            1,
+            &[(Flat, 0, 1, 0, most), (Flat, 0, 2, 0, 0)],
+        ),
+        (
+            "a cost of 2^64",
+            4,
+            1,
+            &[
+                (Flat, 0, 1, 0, most),
+                (Flat, 1, 2, 0, 1),
+                (Flat, 2, 3, 0, 5),
+            ],
+        ),
+        (
+            "past inside a nest",
+            4,
+            1,
+            &[
+                (Push, 0, 2, 0, 1),
+                (Flat, 2, 3, 0, most),
+                (Pop, 3, 1, 0, 0),
+                (Flat, 0, 1, 0, most),
+            ],
+        ),
+        (
+            "one root entered twice",
+            5,
+            2,
+            &[
+                (Push, 0, 3, 0, 1),
+                (Push, 1, 3, 1, 1),
+                (Pop, 4, 1, 0, 1),
+                (Pop, 4, 2, 1, 1),
+                (Flat, 3, 4, 0, 1),
+            ],
+        ),
+        (
+            "four deep",
+            10,
+            4,
+            &[
+                (Push, 0, 1, 0, 1),
+                (Push, 1, 2, 1, 1),
+                (Push, 2, 3, 2, 1),
+                (Push, 3, 4, 3, 1),
+                (Flat, 4, 5, 0, 1),
+                (Pop, 5, 6, 3, 1),
+                (Pop, 6, 7, 2, 1),
+                (Pop, 7, 8, 1, 1),
+                (Pop, 8, 9, 0, 1),
+            ],
+        ),
+        (
+            "a cheaper inner part that comes late",
+            6,
+            1,
+            &[
+                (Push, 0, 2, 0, 0),
+                (Flat, 2, 3, 0, 9),
+                (Flat, 2, 4, 0, 1),
+                (Flat, 4, 5, 0, 1),
+                (Flat, 5, 3, 0, 1),
+                (Pop, 3, 1, 0, 0),
+                (Flat, 1, 0, 0, 0),
+            ],
+        ),
+    ];
+    for (name, states, frames, steps) in cases {
+        let machine = small_machine(alloc, states, frames, steps)?;
+        if machine.states() >= 2 {
+            assert!(rt; both_agree(alloc, &machine, &[StateNo(0)])?, "{name}");
+            assert!(rt;
+                both_agree(alloc, &machine, &[StateNo(1), StateNo(0)])?,
+                "{name}, from two starts"
+            );
+        }
+    }
     Ok(())
 }

@@ -1,7 +1,7 @@
 use Rattle.std.proofs.Common.{◌∙◌, ap}
 use Rattle.finder_cli.specs.Status.{code}
 use Rattle.finder_cli.proofs.Settled.{Answers-one}
-use Rattle.finder_cli.proofs.Sentences.{says-none, says-past, says-long, says-unknown, says-unbuilt}
+use Rattle.finder_cli.proofs.Sentences.{says-none, says-past, says-long, says-unknown}
 use Rattle.finder_cli.proofs.Circuits.{says-circuit}
 use Rattle.finder_cli.proofs.Counted.{says-counts}
 use Rattle.finder_cli.proofs.Causes.{says-usage, says-fault, says-not-read, says-too-large}
@@ -37,10 +37,6 @@ returns-in-Ok-clause-fault g c = says-fault c.args.words.now (g.F.Files.store c.
 
 pub returns-in-Ok-clause-unknown : goal.returns-in-Ok-clause-unknown
 returns-in-Ok-clause-unknown g c = says-unknown c.args.words.now (g.F.Files.store c.args.files.now) (g.F.Files.store c.reply_to.new.files) c.print.result c.in-Ok.reply
-    (λ ran. record { may = c.in-Ok.ensures; code = c.print.ensures.status ran.0 })
-
-pub returns-in-Ok-clause-unbuilt : goal.returns-in-Ok-clause-unbuilt
-returns-in-Ok-clause-unbuilt g c = says-unbuilt c.args.words.now (g.F.Files.store c.args.files.now) (g.F.Files.store c.reply_to.new.files) c.print.result c.in-Ok.reply
     (λ ran. record { may = c.in-Ok.ensures; code = c.print.ensures.status ran.0 })
 
 pub returns-in-Ok-clause-not_read : goal.returns-in-Ok-clause-not_read

@@ -7,6 +7,6 @@ returns-in-Some-clause-ok c = class_found c.args.inventory.now c.args.id.now c.i
 
 pub returns-in_ok-id-in-None-clause-err : goal.returns-in_ok-id-in-None-clause-err
 returns-in_ok-id-in-None-clause-err c = (
-  c.in_ok-id-in-None.ensures,
   no_port c.args.inventory.now c.args.id.now (port_unnumbered c.args.inventory.now c.text.result.now c.args.id.now c.text.ensures.text c.in-None.ensures),
+  c.in_ok-id-in-None.ensures,
 )

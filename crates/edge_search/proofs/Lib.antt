@@ -1,5 +1,0 @@
-mod Weights
-pub mod Bags
-mod Searching
-mod Filing
-mod Backwards

@@ -1,0 +1,86 @@
+-- Items of lists at their places.
+use Rattle.std.proofs.Common.{◌≡◌, ℕ, zero, suc, ◌+◌, ◌<◌, ◌≤◌, ◌⊎◌, inl, inr, List, [], ◌∷◌, ◌++◌, Bool, true, false, Some, map, length, take, refl, sym, ◌∙◌, ap, subst, arith, Contains}
+use Rattle.std.specs.Prelude.{slice_get}
+use Rattle.std.specs.List.{AllByRecursion, IsDistinct}
+use Rattle.std.proofs.lemmas.Option.{slice_get_within, get_or_from_slice_get, slice_get-get_or}
+use Rattle.std.proofs.lemmas.List.{map-append, take_all, take_more}
+use Rattle.std.proofs.lemmas.Bool.{both_ways, cases_lt}
+
+pub one_of_some : {A : Type 0} {x y : A} → Some x ≡ Some y → x ≡ y
+one_of_some e = cc
+
+pub same_at : {A : Type 0} (xs : List A) (i : ℕ) (x y : A) → slice_get xs i ≡ Some x → slice_get xs i ≡ Some y → x ≡ y
+same_at xs i x y e f = cc
+
+pub some_at : {A : Type 0} (xs : List A) (n : ℕ) → n < length xs → (x : A) × (slice_get xs n ≡ Some x)
+some_at [] n h = absurd (omega arith)
+some_at (x ∷ xs) zero h = (x, refl)
+some_at (x ∷ xs) (suc n) h = some_at xs n (omega (arith, h))
+
+pub at_left : {A : Type 0} (xs ys : List A) (k : ℕ) (x : A) → slice_get xs k ≡ Some x → slice_get (xs ++ ys) k ≡ Some x
+at_left [] ys k x at = cc
+at_left (z ∷ xs) ys zero x at = at
+at_left (z ∷ xs) ys (suc k) x at = at_left xs ys k x at
+
+pub at_right : {A : Type 0} (xs ys : List A) (k : ℕ) (x : A) (n : ℕ) → n ≡ length xs + k → slice_get ys k ≡ Some x → slice_get (xs ++ ys) n ≡ Some x
+at_right [] ys k x n e at = let same : k ≡ n = omega (arith, e) in subst (λ m. slice_get ys m ≡ Some x) same at
+at_right (z ∷ xs) ys k x zero e at = absurd (omega (arith, e))
+at_right (z ∷ xs) ys k x (suc n) e at = at_right xs ys k x n (omega (arith, e)) at
+
+-- the place is the j-th behind n others
+abbrev pub IsBehind : {A : Type 0} → List A → ℕ → ℕ → A → Type 0
+IsBehind ys n k x = (j : ℕ) × (k ≡ n + j) × (slice_get ys j ≡ Some x)
+
+pub at_cases : {A : Type 0} (xs ys : List A) (k : ℕ) (x : A) → slice_get (xs ++ ys) k ≡ Some x → (slice_get xs k ≡ Some x) ⊎ IsBehind ys (length xs) k x
+at_cases [] ys k x at = inr (k, omega arith, at)
+at_cases (z ∷ xs) ys zero x at = inl at
+at_cases (z ∷ xs) ys (suc k) x at = elim (at_cases xs ys k x at) as (λ v. (slice_get (z ∷ xs) (suc k) ≡ Some x) ⊎ IsBehind ys (length (z ∷ xs)) (suc k) x) [
+  | inl a ↦ inl a
+  | inr b ↦ inr (b.0, omega (arith, b.1), b.2)
+]
+
+pub then_none : {A : Type 0} (xs : List A) → xs ++ [] ≡ xs
+then_none [] = refl
+then_none (x ∷ xs) = ap (λ l. x ∷ l) (then_none xs)
+
+pub number_cases : (i n : ℕ) → i < n + 1 → (i < n) ⊎ (i ≡ n)
+number_cases i n l = elim (cases_lt i n) as (λ v. (i < n) ⊎ (i ≡ n)) [ inl a ↦ inl a | inr b ↦ inr (omega arith) ]
+
+pub contains_at : {A : Type 0} (xs : List A) (k : ℕ) (x : A) → slice_get xs k ≡ Some x → Contains xs x
+contains_at xs k x at = (k, slice_get_within xs k x at, get_or_from_slice_get xs k x x at)
+
+pub at_contains : {A : Type 0} (xs : List A) (x : A) → Contains xs x → (k : ℕ) × (slice_get xs k ≡ Some x)
+at_contains xs x c = (c.0, slice_get-get_or xs c.0 x c.1 ∙ ap Some c.2)
+
+-- one more of the images
+pub map_more : {A B : Type 0} (f : A → B) (xs : List A) (n : ℕ) (x : A) → slice_get xs n ≡ Some x → map f (take n xs) ++ f x ∷ [] ≡ map f (take (n + 1) xs)
+map_more f xs n x at =
+    let e : take (n + 1) xs ≡ take n xs ++ x ∷ [] = take_more xs n x (slice_get_within xs n x at) ∙ ap (λ y. take n xs ++ y ∷ []) (get_or_from_slice_get xs n x x at) in
+    sym (ap (map f) e ∙ map-append f (take n xs) (x ∷ []))
+
+pub map_whole : {A B : Type 0} (f : A → B) (xs : List A) (n : ℕ) → length xs ≤ n → map f (take n xs) ≡ map f xs
+map_whole f xs n long = ap (map f) (take_all n xs long)
+
+pub mapped_at : {A B : Type 0} (f : A → B) (xs : List A) (k : ℕ) (x : A) → slice_get xs k ≡ Some x → slice_get (map f xs) k ≡ Some (f x)
+mapped_at f [] k x at = cc
+mapped_at f (y ∷ ys) zero x at = ap (λ z. Some (f z)) (one_of_some at)
+mapped_at f (y ∷ ys) (suc k) x at = mapped_at f ys k x at
+
+pub at_mapped : {A B : Type 0} (f : A → B) (xs : List A) (k : ℕ) (y : B) → slice_get (map f xs) k ≡ Some y → (x : A) × (slice_get xs k ≡ Some x) × (y ≡ f x)
+at_mapped f [] k y at = cc
+at_mapped f (x ∷ xs) zero y at = (x, refl, sym (one_of_some at))
+at_mapped f (x ∷ xs) (suc k) y at = at_mapped f xs k y at
+
+all_at : {A : Type 0} (P : A → Type 0) (xs : List A) (i : ℕ) (x : A) → AllByRecursion P xs → slice_get xs i ≡ Some x → P x
+all_at P [] i x all at = cc
+all_at P (y ∷ ys) zero x all at = subst P (one_of_some at) all.0
+all_at P (y ∷ ys) (suc i) x all at = all_at P ys i x all.1 at
+
+-- keys that are distinct by a test that each passes with itself stand once
+pub distinct_once : {A : Type 0} (e : A → A → Bool) → ((x : A) → e x x ≡ true) → (xs : List A) → IsDistinct e xs → (f g : ℕ) (x : A) → slice_get xs f ≡ Some x → slice_get xs g ≡ Some x → f ≡ g
+unfolding IsDistinct
+distinct_once e same [] d f g x at_f at_g = cc
+distinct_once e same (y ∷ ys) d zero zero x at_f at_g = refl
+distinct_once e same (y ∷ ys) d zero (suc g) x at_f at_g = absurd (both_ways (e y x) (all_at (λ z. e y z ≡ false) ys g x d.0 at_g) (ap (e y) (sym (one_of_some at_f)) ∙ same y))
+distinct_once e same (y ∷ ys) d (suc f) zero x at_f at_g = absurd (both_ways (e y x) (all_at (λ z. e y z ≡ false) ys f x d.0 at_f) (ap (e y) (sym (one_of_some at_g)) ∙ same y))
+distinct_once e same (y ∷ ys) d (suc f) (suc g) x at_f at_g = ap suc (distinct_once e same ys d.1 f g x at_f at_g)

@@ -1,0 +1,12 @@
+pub mod Items
+pub mod Growing
+pub mod Fitting
+pub mod Listed
+pub mod Crossed
+pub mod Passed
+pub mod Named
+pub mod Passages
+pub mod Chosen
+pub mod Told
+pub mod Hops
+pub mod Together

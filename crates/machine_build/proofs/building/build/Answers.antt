@@ -1,0 +1,26 @@
+use Rattle.machine_build.proofs.Named.{once}
+use Rattle.machine_build.proofs.Together.{are_open, have_spans, is_built, moves_within}
+use Rattle.machine_build.proofs.building.build.Goals as goal
+
+pub moves_of-requires-clause-places : goal.moves_of-requires-clause-places
+moves_of-requires-clause-places c = have_spans c.args.inventory.now c.args.kept.now c.in_ok-places.places c.in_ok-places.ensures
+
+pub machine_of-requires : goal.machine_of-requires
+machine_of-requires c = moves_within c.args.inventory.now c.in_ok-places.places.places c.moves_of.new.frames.keys c.in_ok-moves.moves.items c.deref.result.now c.len.result c.count_frames.result c.in_ok-moves.ensures c.deref.ensures.value c.len.ensures c.count_frames.ensures.counted
+
+pub allowed-requires-clause-places : goal.allowed-requires-clause-places
+allowed-requires-clause-places c = have_spans c.args.inventory.now c.args.kept.now c.in_ok-places.places c.in_ok-places.ensures
+
+pub allowed-requires-clause-all_open : goal.allowed-requires-clause-all_open
+allowed-requires-clause-all_open c = are_open c.args.inventory.now c.args.kept.now c.in_ok-places.places c.in_ok-places.ensures
+
+pub allowed-requires-2-clause-places : goal.allowed-requires-2-clause-places
+allowed-requires-2-clause-places c = have_spans c.args.inventory.now c.args.kept.now c.in_ok-places.places c.in_ok-places.ensures
+
+pub allowed-requires-2-clause-all_open : goal.allowed-requires-2-clause-all_open
+allowed-requires-2-clause-all_open c = are_open c.args.inventory.now c.args.kept.now c.in_ok-places.places c.in_ok-places.ensures
+
+pub returns : goal.returns
+returns c = is_built c.args.inventory.now c.args.kept.now c.args.request.now (once c.args.inventory.now c.is_merged.ensures) c.in_ok-places.places c.in_ok-places.ensures c.moves_of.new.frames.keys c.count_frames.ensures.apart
+    c.in_ok-moves.moves.items c.in_ok-moves.ensures c.len.result c.count_frames.result c.len.ensures c.count_frames.ensures.counted c.deref.result.now c.deref-2.result.now c.deref.ensures.value c.deref-2.ensures.value
+    c.in_ok-machine.machine c.in_ok-sites.sites.items c.in_ok-starts.starts.items c.in_ok-targets.targets.items c.in_ok-machine.ensures c.in_ok-sites.ensures c.in_ok-starts.ensures c.in_ok-targets.ensures

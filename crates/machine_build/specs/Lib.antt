@@ -1,0 +1,4 @@
+pub mod Built
+pub mod Frames
+pub mod Ways
+pub mod Adding

@@ -1,0 +1,174 @@
+ghost use Rattle.std.specs.Prelude.{◌≡◌, ◌<◌, [], IfOk, OnOk, length};
+ghost use Rattle.circuit_spec.specs.Faults.{ClassesFit};
+ghost use Rattle.circuit_spec.specs.Network.{elements_of, ports};
+ghost use Rattle.machine_build.specs.Adding.{Adds, AreMoves};
+ghost use Rattle.machine_build.specs.Frames.{GoesOn};
+ghost use Rattle.machine_build.specs.Ways.{GoesFrom, HaveSpans, IsDone, IsFarPort, IsNearPort, IsNearEnd, IsWay};
+
+use crate::frames::effect_of;
+use crate::sides::{changes, far_ports, fitting, near_ports, takes};
+use crate::ways::{Crossing, End, Move};
+use circuit_spec::Frame;
+use indexmap::IndexSet;
+use ml_base::{NoMemory, PortNo, StateNo};
+use nml_inventory::Inventory;
+use open_places::Places;
+use std::alloc::Global;
+
+/// Adds the move from the near end of a crossing to a far end.
+fn add_move(moves: &mut Vec<Move>, crossing: Crossing, far: End) -> Result<(), NoMemory>
+    ensures { IfOk result (λ _. Adds (λ w. (w.element ≡ crossing.element) × (w.near ≡ crossing.near) × (w.far ≡ far)) (λ m. m.effect ≡ crossing.effect) moves.old.items moves.new.items) }
+{
+    let added = Move {
+        element: crossing.element,
+        near: crossing.near,
+        far,
+        effect: crossing.effect,
+    };
+    let Ok(()) = moves.push(added) else {
+        return Err(NoMemory);
+    };
+    Ok(())
+}
+
+/// Adds the moves from the near end of a crossing to the places of a port at the far side.
+fn add_far_port(
+    inventory: &Inventory,
+    places: &Places,
+    moves: &mut Vec<Move>,
+    crossing: Crossing,
+    port: PortNo,
+) -> Result<(), NoMemory>
+    requires port { port.0 < length (ports inventory.now) }
+    requires places { HaveSpans inventory.now places.now }
+    ensures { IfOk result (λ _. Adds (λ w. GoesFrom inventory.now places.now.places crossing w × (w.far.port ≡ port)) (λ m. m.effect ≡ crossing.effect) moves.old.items moves.new.items) }
+{
+    let span = fitting(inventory, places, port, crossing.any, crossing.label);
+    for state in span.first..span.end {
+        let far = End {
+            port,
+            state: StateNo(state),
+        };
+        add_move(moves, crossing, far)?;
+    }
+    Ok(())
+}
+
+/// Adds the moves from the near end of a crossing to the far side.
+fn add_far_side(
+    inventory: &Inventory,
+    places: &Places,
+    moves: &mut Vec<Move>,
+    crossing: Crossing,
+) -> Result<(), NoMemory>
+    requires element { crossing.element < length (elements_of inventory.now) }
+    requires places { HaveSpans inventory.now places.now }
+    ensures { IfOk result (λ _. Adds (λ w. GoesFrom inventory.now places.now.places crossing w × IsFarPort inventory.now crossing.element w.far.port.0) (λ m. m.effect ≡ crossing.effect) moves.old.items moves.new.items) }
+{
+    inventory.is_merged();
+    let ports = far_ports(inventory, crossing.element);
+    for place in 0..ports.len() {
+        add_far_port(inventory, places, moves, crossing, ports[place])?;
+    }
+    Ok(())
+}
+
+/// Adds the moves between a near end of an element and its far side.
+fn add_near_end(
+    inventory: &Inventory,
+    places: &Places,
+    frames: &mut IndexSet<Frame>,
+    moves: &mut Vec<Move>,
+    number: u64,
+    near: End,
+) -> Result<(), NoMemory>
+    requires fit { ClassesFit inventory.now }
+    requires near { IsNearEnd inventory.now places.now.places number near }
+    requires places { HaveSpans inventory.now places.now }
+    ensures on { OnOk result (GoesOn frames.old.keys frames.new.keys) }
+    ensures adds { IfOk result (λ _. Adds (λ w. IsWay inventory.now places.now.places w × (w.element ≡ number) × (w.near ≡ near)) (IsDone inventory.now places.now.places frames.new.keys) moves.old.items moves.new.items) }
+{
+    let label = places.place(near.state).label;
+    let Some(element) = inventory.element(number) else {
+        unreachable!()
+    };
+    if !takes(element, label) {
+        return Ok(());
+    }
+    let effect = effect_of(inventory, frames, element, near.port, label)?;
+    let crossing = Crossing {
+        element: number,
+        near,
+        label,
+        any: changes(element),
+        effect,
+    };
+    add_far_side(inventory, places, moves, crossing)?;
+    Ok(())
+}
+
+/// Adds the moves between the places of a port at the near side of an element and its far side.
+fn add_near_port(
+    inventory: &Inventory,
+    places: &Places,
+    frames: &mut IndexSet<Frame>,
+    moves: &mut Vec<Move>,
+    number: u64,
+    port: PortNo,
+) -> Result<(), NoMemory>
+    requires fit { ClassesFit inventory.now }
+    requires near { IsNearPort inventory.now number port.0 }
+    requires places { HaveSpans inventory.now places.now }
+    ensures on { OnOk result (GoesOn frames.old.keys frames.new.keys) }
+    ensures adds { IfOk result (λ _. Adds (λ w. IsWay inventory.now places.now.places w × (w.element ≡ number) × (w.near.port ≡ port)) (IsDone inventory.now places.now.places frames.new.keys) moves.old.items moves.new.items) }
+{
+    let span = fitting(inventory, places, port, true, None);
+    for state in span.first..span.end {
+        let near = End {
+            port,
+            state: StateNo(state),
+        };
+        add_near_end(inventory, places, frames, moves, number, near)?;
+    }
+    Ok(())
+}
+
+/// Adds the moves through an element.
+fn add_element(
+    inventory: &Inventory,
+    places: &Places,
+    frames: &mut IndexSet<Frame>,
+    moves: &mut Vec<Move>,
+    number: u64,
+) -> Result<(), NoMemory>
+    requires fit { ClassesFit inventory.now }
+    requires number { number < length (elements_of inventory.now) }
+    requires places { HaveSpans inventory.now places.now }
+    ensures on { OnOk result (GoesOn frames.old.keys frames.new.keys) }
+    ensures adds { IfOk result (λ _. Adds (λ w. IsWay inventory.now places.now.places w × (w.element ≡ number)) (IsDone inventory.now places.now.places frames.new.keys) moves.old.items moves.new.items) }
+{
+    inventory.is_merged();
+    let ports = near_ports(inventory, number);
+    for place in 0..ports.len() {
+        add_near_port(inventory, places, frames, moves, number, ports[place])?;
+    }
+    Ok(())
+}
+
+/// The moves through all elements, with the frames of adaptations and deadaptations numbered.
+pub fn moves_of(
+    alloc: Global,
+    inventory: &Inventory,
+    places: &Places,
+    frames: &mut IndexSet<Frame>,
+) -> Result<Vec<Move>, NoMemory>
+    requires fit { ClassesFit inventory.now }
+    requires places { HaveSpans inventory.now places.now }
+    ensures { IfOk result (λ moves. AreMoves inventory.now places.now.places frames.new.keys moves.items) }
+{
+    let mut moves = Vec::new(alloc);
+    for number in 0..inventory.elements() {
+        add_element(inventory, places, frames, &mut moves, number)?;
+    }
+    Ok(moves)
+}

@@ -1,0 +1,6 @@
+//! The segments of the machine of a network are the segments of the network.
+#![tactic(auto)]
+
+mod laws;
+
+pub use laws::{pairs_are_lifted, segments_are_lifted};

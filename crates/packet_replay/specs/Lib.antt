@@ -1,0 +1,3 @@
+pub mod Conditions
+pub mod Numbered
+pub mod Carried
