@@ -1,12 +1,13 @@
 #!/usr/bin/env python3
-"""Compares `finder find` with a plain reading of docs/MODEL.md, over small random networks.
+"""Compares `finder find` and `finder route` with a plain reading of docs/MODEL.md, over small random networks.
 
     python3 checks/random_networks.py PROGRAM [--count N] [--seed N]
 
 Each network has one to three files, with aliases over the files, labels, groups, swapping, Nodes, conversions, adaptations that
-may nest without end, and costs from 0 to 2^64 - 1. The reference knows nothing of kept labels, potentials or derivations: it takes
-all labels, and lowers the weight of each pair of a root and a place until nothing changes. A difference is printed with its files,
-and the exit status is 1.
+may nest without end, and costs from 0 to 2^64 - 1. The reference knows nothing of machines or derivations. For the outcome it takes
+all labels, and lowers the weight of each pair of a root and a place until nothing changes. For the potentials it does the same
+over the kept labels. The hops of a document are replayed, and its flags and rules made anew from them. A difference is printed with
+its files, and the exit status is 1.
 """
 import argparse
 import json
@@ -305,9 +306,8 @@ def lower(weights, root, place, weight):
     return True
 
 
-def least_weights(network, starts):
-    """The least weight of each pair of a root and a place: cost and hops, without bound."""
-    hops = list(network.hops())
+def least_weights(network, starts, hops):
+    """The least weight of each pair of a root and a place by these hops: cost and hops, without bound."""
     weights = {}
     for place in starts:
         lower(weights, None, place, (0, 0))
@@ -334,7 +334,7 @@ def least_weights(network, starts):
 def outcome(network, request):
     """The outcome line, and the least weight where there is one."""
     start, target = network.allowed(request[0], request[1]), network.allowed(request[2], request[3])
-    found = least_weights(network, start).get(None, {})
+    found = least_weights(network, start, list(network.hops())).get(None, {})
     weights = [found[place] for place in target if place in found]
     if not weights:
         return "outcome none", None
@@ -374,28 +374,122 @@ def check_hops(network, request, lines, least):
     return None
 
 
+# ---- the document
+
+def kept_labels(network, request):
+    """The kept labels of each label type: the least of the labels of a set that no set and no stated label tells apart."""
+    tests = {}
+    for name, labels in network.open.items():
+        tests.setdefault(labels_of(network.ports[name])[0], []).append(set(labels))
+    for element in network.elements.values():
+        if element["type"] in ("Link", "LinkGroup") and labels_of(element)[0] is not None:
+            tests.setdefault(labels_of(element)[0], []).append(labels_of(element)[1])
+    kept = {}
+    for labeltype, sets in tests.items():
+        if labeltype is None:
+            continue
+        stated = [{int(wish)} for port, wish in (request[:2], request[2:])
+                  if wish != "any" and labels_of(network.ports[network.class_of[port]])[0] == labeltype]
+        least = {}
+        for label in sorted(set().union(*sets)):
+            least.setdefault(tuple(label in one for one in sets + stated), label)
+        kept[labeltype] = set(least.values())
+    return kept
+
+
+def has_kept(network, kept, place):
+    return place[1] is None or place[1] in kept[labels_of(network.ports[place[0]])[0]]
+
+
+def place_key(place):
+    return place[0].encode(), -1 if place[1] is None else place[1]
+
+
+def place_words(place):
+    return f"{place[0]} {tag(place[1])}"
+
+
+def weight_words(weight):
+    return "past -" if weight[0] >= 2**64 else f"{weight[0]} {min(weight[1], 2**40)}"
+
+
+def potential_lines(network, request):
+    """The lines of the least weights over kept labels."""
+    kept = kept_labels(network, request)
+    hops = [hop for hop in network.hops() if has_kept(network, kept, hop[1]) and has_kept(network, kept, hop[2])]
+    starts = [place for place in network.allowed(request[0], request[1]) if has_kept(network, kept, place)]
+    weights = least_weights(network, starts, hops)
+    top = weights.pop(None, {})
+    lines = [f"top {place_words(y)} {weight_words(top[y])}" for y in sorted(top, key=place_key)]
+    for x in sorted(weights, key=place_key):
+        lines += [f"seg {place_words(x)} {place_words(y)} {weight_words(weights[x][y])}" for y in sorted(weights[x], key=place_key)]
+    return lines
+
+
+def again(network, hops):
+    """For each hop, the first earlier place that is the one behind it, as the words that end its line."""
+    if not hops:
+        return []
+    places = [(network.class_of[hops[0][3]], hops[0][4])] + [(network.class_of[hop[5]], hop[6]) for hop in hops]
+    return [f" again {places.index(place)}" if places.index(place) < at else "" for at, place in enumerate(places)][1:]
+
+
+VERBS = {"link": "carry", "adapt": "wrap", "deadapt": "unwrap", "convert": "convert"}
+
+
+def rule_lines(hops):
+    """The rules of hops, by domain and number."""
+    lines, last = [], None
+    for hop in sorted(hops, key=lambda hop: (hop[7].encode(), int(hop[0]))):
+        verb = VERBS.get(hop[1]) or ("connect" if hop[4] == hop[6] else "swap")
+        if hop[7] != last:
+            lines.append(f"domain {hop[7]}")
+        lines.append(f"rule {hop[0]} {verb} {' '.join(hop[2:7])}")
+        last = hop[7]
+    return lines
+
+
+def check_document(network, request, lines, least, potentials):
+    """Why lines behind the outcome are no end of a document with these potentials, or nothing."""
+    hops = [line for line in lines if line.startswith("hop ")]
+    if least is None and hops:
+        return "hops without a circuit"
+    if least is not None:
+        told = check_hops(network, request, hops, least)
+        if told is not None:
+            return told
+    words = [line.split(" ")[1:9] for line in hops]
+    want = [f"hop {' '.join(hop)}{flag}" for hop, flag in zip(words, again(network, words))]
+    want += rule_lines(words) + potentials + ["end"]
+    for number, (line, due) in enumerate(zip(lines + [None] * len(want), want + [None] * len(lines)), 4):
+        if line != due:
+            return f"line {number} is {line}, wanted {due}"
+    return None
+
+
 # ---- comparing
 
 def difference(program, folder, domains, request):
-    """What `find` prints that is not so, or nothing."""
+    """What `find` or `route` prints that is not so, or nothing."""
     names = []
     for number, domain in enumerate(domains):
         name = os.path.join(folder, f"{number}.json")
         with open(name, "w") as out:
             json.dump(domain, out)
         names.append(name)
-    run = subprocess.run([program, "find", *request, *names], capture_output=True, text=True)
-    lines = run.stdout.splitlines()
     network = Network(domains)
-    if lines[:1] != ["circuit 1"]:
-        return f"status {run.returncode}: {run.stdout}"
     want, least = outcome(network, request)
     status = {"none": 1, "past": 7, "long": 8, "found": 0}[want.split(" ")[1]]
-    if lines[2] != want or run.returncode != status:
-        return f"printed {lines[2]}, status {run.returncode}; wanted {want}, status {status}"
-    if status != 0:
-        return None
-    return check_hops(network, request, [line for line in lines if line.startswith("hop ")], least)
+    for command, potentials in (("find", potential_lines(network, request)), ("route", [])):
+        run = subprocess.run([program, command, *request, *names], capture_output=True, text=True)
+        lines = run.stdout.splitlines()
+        heading = ["circuit 1", "request " + " ".join(request), want]
+        if lines[:3] != heading or run.returncode != status:
+            return f"{command}: printed {lines[:3]}, status {run.returncode}; wanted {heading}, status {status}"
+        told = check_document(network, request, lines[3:], least if status == 0 else None, potentials)
+        if told is not None:
+            return f"{command}: {told}"
+    return None
 
 
 def random_request(rng, network, ids):
