@@ -9,9 +9,8 @@ ghost use Rattle.answer_text.specs.Spelling.{IsWellFormed};
 use answer_text::{Answer, TextFault, read, write};
 use anyhow::{Result, bail};
 use io_edges::{Files, RealFiles, RealSink};
-use std::env;
-use std::io;
 use std::process::ExitCode;
+use std::{env, io};
 
 /// The most bytes of a document that is read: 1 GiB.
 const LIMIT: u64 = 1_073_741_824;
@@ -29,7 +28,7 @@ fn answer_in(rt: &HostRuntime, name: &str) -> Result<Answer>
     ensures { IfOk result IsWellFormed }
 {
     let mut files = RealFiles::new(rt);
-    let Ok(bytes) = files.read_file(name, LIMIT) else {
+    let Ok(bytes) = files.read_file(rt.alloc(), name, LIMIT) else {
         bail!("not read");
     };
     match read(rt.alloc(), bytes.as_slice()) {
