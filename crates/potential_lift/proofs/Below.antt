@@ -1,7 +1,6 @@
 -- The lines of rising pairs rise: the order of states is that of places.
-use Rattle.std.proofs.Common.{◌≡◌, ◌∙◌, refl, sym, ap, subst, ℕ, zero, suc, ◌<◌, List, [], ◌∷◌, inl, inr, Bool, true, ◌&&◌, ◌||◌, Option, None, Some, arith, Less, get_or}
-use Rattle.std.specs.Prelude.{slice_get, nat_lt}
-use Rattle.std.specs.List.{AllByRecursion, AllZip}
+use Rattle.std.proofs.Common.{◌≡◌, ◌∙◌, refl, sym, ap, subst, suc, ◌<◌, List, [], ◌∷◌, inl, inr, Bool, true, ◌&&◌, ◌||◌, None, Some, arith, Less, get_or}
+use Rattle.std.specs.List.{AllByRecursion}
 use Rattle.std.specs.Ordering.{nat_cmp, is_lt}
 use Rattle.std.specs.Option.{option_cmp}
 use Rattle.std.specs.Str.{bytes_eq}
@@ -20,7 +19,7 @@ use Rattle.domain_config.specs.Rules.{is_below}
 use Rattle.answer_text.specs.declared.answer.PotLine.{PotLine}
 use Rattle.answer_text.specs.declared.answer.RootName.{RootName}
 use Rattle.answer_text.specs.declared.answer.RootName.TheVariants as name
-use Rattle.answer_text.specs.Spelling.{is_tag_below, is_place_below, same_tag, same_place, is_pot_below, may_follow_pot}
+use Rattle.answer_text.specs.Spelling.{is_tag_below, is_place_below, same_tag, same_place, is_pot_below}
 use Rattle.answer_text.specs.Ordered.{ArePotsInOrder, IsShort}
 use Rattle.answer_text.specs.Potentials.{root_place}
 use Rattle.open_places.specs.Places.{place_cmp, IsRising as ArePlacesRising}

@@ -1,19 +1,16 @@
 -- The lines of the potentials of a machine are the potentials of its request.
-use Rattle.std.proofs.Common.{◌≡◌, ◌∙◌, refl, sym, ap, subst, ℕ, ◌<◌, ◌≤◌, ◌^◌, List, Some, length, get_or, min, arith, Contains}
-use Rattle.std.specs.Prelude.{slice_get}
+use Rattle.std.proofs.Common.{◌≡◌, ◌∙◌, sym, ap, subst, List, length, get_or, arith, Contains}
 use Rattle.std.specs.List.{All, AllByRecursion}
-use Rattle.std.proofs.lemmas.List.Elements.{recursion_from_All}
+use Rattle.std.proofs.lemmas.List.Elements.{All-contains_itself, All-weaker, recursion_from_All}
 use Rattle.std.proofs.lemmas.Option.{slice_get-get_or, slice_get_within}
 use Rattle.ml_base.specs.Weight.{FullWeight, cap}
 use Rattle.ml_base.specs.declared.numbers.Root.{Root}
 use Rattle.ml_base.specs.declared.numbers.Root.TheVariants as root
-use Rattle.ml_base.specs.declared.numbers.StateNo.{StateNo}
 use Rattle.ml_base.specs.declared.weight.Weight.{Weight}
 use Rattle.ml_base.specs.declared.weight.Weight.TheVariants.{Known, Past}
 use Rattle.adapt_machine.specs.Walks.{full_weight_of}
 use Rattle.segment_grammar.specs.declared.potentials.Pot.{Pot}
 use Rattle.segment_grammar.specs.Pots.{IsRising, pot}
-use Rattle.segment_grammar.specs.Reached.{IsLeast}
 use Rattle.segment_grammar.proofs.Places.{at_contains, contains_at}
 use Rattle.circuit_spec.specs.declared.hops.PlaceName.{PlaceName}
 use Rattle.circuit_spec.specs.declared.hops.Request.{Request}
@@ -27,17 +24,13 @@ use Rattle.answer_text.specs.Potentials.{root_place, ArePotentials, IsListed, Is
 use Rattle.knuth_search.specs.Derived.{IsPotWithin, IsRootWithin}
 use Rattle.knuth_search.specs.Settled.{ArePotentials as AreMachinePotentials}
 use Rattle.machine_build.specs.Built.{BuiltValue, IsState}
-use Rattle.machine_lift.specs.Lift.{AreLifted, ArePaired, IsMachineOf, IsRootAt}
+use Rattle.machine_lift.specs.Lift.{AreLifted, IsMachineOf, IsRootAt}
 use Rattle.machine_lift.proofs.Lifted.{lifted, paired}
 use Rattle.machine_lift.proofs.States.{same_at}
 use Rattle.machine_lift.proofs.Weights.{least, reached_back}
 use Rattle.potential_lift.specs.Lines.{AreLinesOf, AreWithin, IsLineOf}
 use Rattle.potential_lift.proofs.Below.{in_order, one_root}
 use Rattle.potential_lift.proofs.Zipped.{zip_first, zip_second}
-
--- what holds of each item that a list contains holds of all its items
-all_listed : {A : Type 0} (P : A → Type 0) (xs : List A) → ((x : A) → Contains xs x → P x) → All P xs
-all_listed P xs each = λ k d low. each (get_or xs k d) (contains_at xs k (get_or xs k d) (slice_get-get_or xs k d low))
 
 short : (full : FullWeight) (w : Weight) → cap full ≡ w → IsShort w
 short full (Known cost hops) e = let k = cap_known full cost hops e in omega (arith, k.2)
@@ -59,12 +52,13 @@ module _ (T : Topology) (r : Request) (b : BuiltValue) (m : IsMachineOf T r b) (
       record { state = slice_get_within b.places p.state.0 on.1 on.3; root = root_within b p.root on.0 on.2 }
 
   pub within : AreWithin b pots
-  within = all_listed (IsPotWithin (length b.places)) pots pot_within
+  within = All-weaker (Contains pots) (IsPotWithin (length b.places)) pot_within pots (All-contains_itself pots)
+
+  pot_short : (p : Pot) → Contains pots p → IsShort p.weight
+  pot_short p c = let is = are.least p c in short (full_weight_of b.machine.steps is.segment) p.weight is.weight
 
   weights_short : AllByRecursion (λ (p : Pot). IsShort p.weight) pots
-  weights_short =
-      recursion_from_All (λ (p : Pot). IsShort p.weight) pots
-      (all_listed (λ (p : Pot). IsShort p.weight) pots (λ p c. let is = are.least p c in short (full_weight_of b.machine.steps is.segment) p.weight is.weight))
+  weights_short = recursion_from_All (λ (p : Pot). IsShort p.weight) pots (All-weaker (Contains pots) (λ (p : Pot). IsShort p.weight) pot_short pots (All-contains_itself pots))
 
   module _ (lines : List PotLine) (lines_are : AreLinesOf b pots lines) where
     line_least : (p : Pot) (l : PotLine) → IsLineOf b p l → Contains pots p → IsPotential T r l
