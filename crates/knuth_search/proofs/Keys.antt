@@ -1,22 +1,22 @@
 -- Pairs of a root and a state as keys of a map.
-use Rattle.std.proofs.Common.{◌≡◌, ℕ, List, refl, ◌∙◌, ap, subst, arith, Contains, Some, None, Option, slice_get}
-use Rattle.std.specs.Prelude.{Bool, true}
-use Rattle.std.specs.Ordering.{nat_cmp, ordering_then, is_eq}
-use Rattle.std.specs.Option.{option_cmp}
+use Rattle.std.proofs.Common.{◌≡◌, ℕ, ◌+◌, suc, ◌<◌, List, refl, ◌∙◌, ap, subst, sym, arith, Some, None, Option, inl, inr, ◌⊎◌}
+use Rattle.std.specs.Prelude.{Bool, true, false, cond, ◌∷◌, Contains}
+use Rattle.std.specs.List.Sorted.{IsPermutation}
 use Rattle.std.proofs.lemmas.Grind.{common_steps}
+use Rattle.std.proofs.lemmas.List.Sorted.{Contains-permutation}
 use Rattle.ml_base.specs.declared.numbers.StateNo.{StateNo}
 use Rattle.ml_base.specs.declared.numbers.Root.{Root}
 use Rattle.ml_base.specs.declared.numbers.Root.TheVariants.{Request, Entry}
+use Rattle.ml_base.specs.declared.weight.Weight.{Weight}
 use Rattle.ml_base.specs.Weight.{IsCappedAtMost}
+use Rattle.ml_base.proofs.Laws.{at_most-same, at_most-trans}
 use Rattle.segment_grammar.specs.declared.potentials.Pot.{Pot}
-use Rattle.segment_grammar.specs.Pots.{IsOfPair}
-use Rattle.segment_grammar.proofs.Places.{same_at}
-use Rattle.knuth_search.specs.Tables.{root_key, place_in, IsPlaced}
+use Rattle.segment_grammar.specs.Pots.{pot, IsOfPair}
+use Rattle.segment_grammar.proofs.Numbering.{bool_cases}
+use Rattle.knuth_search.specs.Tables.{Queued, root_key, is_key, weight_in}
+use Rattle.knuth_search.specs.Following.{IsCovered, IsOffered, IsNoHeavier, Offers}
 
-abbrev pub IsKey : Option ℕ → ℕ → Option ℕ → ℕ → Bool
-IsKey a b c d = is_eq (ordering_then (option_cmp nat_cmp a c) (nat_cmp b d))
-
-pub same_key : (a : Option ℕ) (b : ℕ) (c : Option ℕ) (d : ℕ) → IsKey a b c d ≡ true → (a ≡ c) × (b ≡ d)
+pub same_key : (a : Option ℕ) (b : ℕ) (c : Option ℕ) (d : ℕ) → is_key a b c d ≡ true → (a ≡ c) × (b ≡ d)
 same_key None b None d e = let s : b ≡ d = grind (arith, common_steps) in (refl, s)
 same_key None b (Some c) d e = absurd (cc)
 same_key (Some a) b None d e = absurd (cc)
@@ -25,7 +25,7 @@ same_key (Some a) b (Some c) d e =
     let t : b ≡ d = grind (arith, common_steps) in
     (ap Some s, t)
 
-pub key_itself : (a : Option ℕ) (b : ℕ) → IsKey a b a b ≡ true
+pub key_itself : (a : Option ℕ) (b : ℕ) → is_key a b a b ≡ true
 key_itself None b = grind (arith, common_steps)
 key_itself (Some a) b = grind (arith, common_steps)
 
@@ -40,40 +40,70 @@ root_key-same (Entry x) (Entry y) e =
 pub state_same : (a b : StateNo) → a.0 ≡ b.0 → a ≡ b
 state_same a b e = let make : ℕ → StateNo = λ n. record { 0 = n } in ap make e
 
--- a listed pair is found by the map
-module _ (pots : List Pot) (places : List ((Option ℕ × ℕ) × ℕ)) (root : Root) (state : StateNo) (placed : (p : Pot) → Contains pots p → IsPlaced places pots p) where
-  pub placed_as : (p : Pot) → Contains pots p → IsOfPair p root state → (place : ℕ) × (place_in places (root_key root) state.0 ≡ Some place)
-      × ((item : Pot) × (slice_get pots place ≡ Some item) × IsOfPair item root state × IsCappedAtMost item.weight p.weight)
-  placed_as p c same =
-      let is : IsPlaced places pots p = placed p c in (
-        is.place,
-        subst (λ r. place_in places (root_key r) state.0 ≡ Some is.place) same.0 (subst (λ s. place_in places (root_key p.root) s.0 ≡ Some is.place) same.1 is.found),
-        (is.item, is.stands, (is.same.0 ∙ same.0, is.same.1 ∙ same.1), is.at_most),
-      )
+-- the map when the weight of a pair is put into it
+module _ (old new : List ((Option ℕ × ℕ) × Weight)) (x : Pot) (key : Option ℕ) (is_key_of : key ≡ root_key x.root)
+    (updates : (q : Option ℕ × ℕ) → weight_in new q.0 q.1 ≡ cond (is_key key x.state.0 q.0 q.1) (Some x.weight) (weight_in old q.0 q.1)) where
+  abbrev Put : Pot → Type 0
+  Put p = IsOfPair x p.root p.state × (weight_in new (root_key p.root) p.state.0 ≡ Some x.weight)
 
-  pub none_keyed : place_in places (root_key root) state.0 ≡ None → (p : Pot) → Contains pots p → IsOfPair p root state → ⊥
-  none_keyed gone p c same = differs (placed_as p c same).0 (placed_as p c same).1
+  abbrev Left : Pot → Type 0
+  Left p = weight_in new (root_key p.root) p.state.0 ≡ weight_in old (root_key p.root) p.state.0
+
+  -- it has the weight at the pair, and at others what it had
+  pub put_cases : (p : Pot) → Put p ⊎ Left p
+  put_cases p = go (bool_cases (is_key key x.state.0 (root_key p.root) p.state.0))
     where
-      differs : (i : ℕ) → place_in places (root_key root) state.0 ≡ Some i → ⊥
-      differs i e = cc
+      go : (is_key key x.state.0 (root_key p.root) p.state.0 ≡ true) ⊎ (is_key key x.state.0 (root_key p.root) p.state.0 ≡ false) → Put p ⊎ Left p
+      go (inl t) =
+          let s : (key ≡ root_key p.root) × (x.state.0 ≡ p.state.0) = same_key key x.state.0 (root_key p.root) p.state.0 t in
+          inl (
+            (root_key-same x.root p.root (sym is_key_of ∙ s.0), state_same x.state p.state s.1),
+            updates (root_key p.root, p.state.0) ∙ ap (λ v. cond v (Some x.weight) (weight_in old (root_key p.root) p.state.0)) t,
+          )
+      go (inr f) = inr (updates (root_key p.root, p.state.0) ∙ ap (λ v. cond v (Some x.weight) (weight_in old (root_key p.root) p.state.0)) f)
 
-  same_place : (place i : ℕ) → place_in places (root_key root) state.0 ≡ Some place → place_in places (root_key root) state.0 ≡ Some i → i ≡ place
-  same_place place i found e = cc
+  pub put_here : weight_in new (root_key x.root) x.state.0 ≡ Some x.weight
+  put_here =
+      let t : is_key key x.state.0 (root_key x.root) x.state.0 ≡ true = subst (λ k. is_key key x.state.0 k x.state.0 ≡ true) is_key_of (key_itself key x.state.0) in
+      updates (root_key x.root, x.state.0) ∙ ap (λ v. cond v (Some x.weight) (weight_in old (root_key x.root) x.state.0)) t
 
-  pub none_stands : (place : ℕ) → place_in places (root_key root) state.0 ≡ Some place → ((item : Pot) → slice_get pots place ≡ Some item → IsOfPair item root state → ⊥)
-      → (p : Pot) → Contains pots p → IsOfPair p root state → ⊥
-  none_stands place found none p c same =
-      let is : (i : ℕ) × (place_in places (root_key root) state.0 ≡ Some i) × ((item : Pot) × (slice_get pots i ≡ Some item) × IsOfPair item root state × IsCappedAtMost item.weight p.weight) = placed_as p c same in
-      none is.2.0 (subst (λ i. slice_get pots i ≡ Some is.2.0) (same_place place is.0 found is.1) is.2.1) is.2.2
+same_weight : (m : Option Weight) (u w : Weight) → m ≡ Some u → m ≡ Some w → u ≡ w
+same_weight m u w a b = cc
 
-  pub least_stands : (place : ℕ) → place_in places (root_key root) state.0 ≡ Some place → (item : Pot) → slice_get pots place ≡ Some item
-      → (p : Pot) → Contains pots p → IsOfPair p root state → IsCappedAtMost item.weight p.weight
-  least_stands place found item at p c same =
-      let is : (i : ℕ) × (place_in places (root_key root) state.0 ≡ Some i) × ((item : Pot) × (slice_get pots i ≡ Some item) × IsOfPair item root state × IsCappedAtMost item.weight p.weight) = placed_as p c same in
-      subst (λ v. IsCappedAtMost v.weight p.weight) (same_at pots place is.2.0 item (subst (λ i. slice_get pots i ≡ Some is.2.0) (same_place place is.0 found is.1) is.2.1) at) is.2.3
+-- an offer that waits, and is no heavier than what was offered of its pair
+module _ (old new : Queued) (x : Pot) (key : Option ℕ) (is_key_of : key ≡ root_key x.root)
+    (updates : (q : Option ℕ × ℕ) → weight_in new.offered q.0 q.1 ≡ cond (is_key key x.state.0 q.0 q.1) (Some x.weight) (weight_in old.offered q.0 q.1))
+    (moved : IsPermutation (x ∷ old.waiting) new.waiting) (lighter : IsNoHeavier old x) where
+  waits_here : (p : Pot) → Contains (x ∷ old.waiting) p → Contains new.waiting p
+  waits_here p c = Contains-permutation (x ∷ old.waiting) new.waiting p moved c
 
-pub placed_seen : (qs pots : List Pot) (places : List ((Option ℕ × ℕ) × ℕ)) → qs ≡ pots → ((p : Pot) → Contains qs p → IsPlaced places qs p) → (p : Pot) → Contains pots p → IsPlaced places pots p
-placed_seen qs pots places e placed = subst (λ v. (p : Pot) → Contains v p → IsPlaced places v p) e placed
+  pub offers_it : Offers (λ p. p ≡ x) old new
+  offers_it = record {
+    kept = kept;
+    waits = λ p c. waits_here p (suc c.0, omega (arith, c.1), c.2);
+    held = held;
+    all = λ p e. subst (λ v. IsOffered new v) (sym e) (record { weight = x.weight; found = put_here old.offered new.offered x key is_key_of updates; at_most = at_most-same x.weight });
+  }
+    where
+      kept : (p : Pot) → IsOffered old p → IsOffered new p
+      kept p o = go (put_cases old.offered new.offered x key is_key_of updates p)
+        where
+          go : Put old.offered new.offered x key is_key_of updates p ⊎ Left old.offered new.offered x key is_key_of updates p → IsOffered new p
+          go (inl s) = record {
+            weight = x.weight;
+            found = s.1;
+            at_most = at_most-trans x.weight o.weight p.weight
+                (lighter o.weight (subst (λ r. weight_in old.offered (root_key r) x.state.0 ≡ Some o.weight) (sym s.0.0) (subst (λ y. weight_in old.offered (root_key p.root) y.0 ≡ Some o.weight) (sym s.0.1) o.found))) o.at_most;
+          }
+          go (inr e) = record { weight = o.weight; found = e ∙ o.found; at_most = o.at_most }
 
-pub nowhere : (pots : List Pot) (i : ℕ) (p : Pot) → slice_get pots i ≡ None → slice_get pots i ≡ Some p → ⊥
-nowhere pots i p a b = cc
+      held : (p : Pot) → IsOffered new p → IsOffered old p ⊎ IsCovered new.waiting p
+      held p o = go (put_cases old.offered new.offered x key is_key_of updates p)
+        where
+          go : Put old.offered new.offered x key is_key_of updates p ⊎ Left old.offered new.offered x key is_key_of updates p → IsOffered old p ⊎ IsCovered new.waiting p
+          go (inl s) = inr (record {
+            weight = x.weight;
+            listed = subst (λ r. Contains new.waiting (pot r p.state x.weight)) s.0.0 (subst (λ y. Contains new.waiting (pot x.root y x.weight)) s.0.1 (waits_here x (0, omega arith, refl)));
+            at_most = subst (λ w. IsCappedAtMost w p.weight) (same_weight (weight_in new.offered (root_key p.root) p.state.0) o.weight x.weight o.found s.1) o.at_most;
+          })
+          go (inr e) = inl (record { weight = o.weight; found = sym e ∙ o.found; at_most = o.at_most })

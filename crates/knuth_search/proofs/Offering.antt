@@ -16,7 +16,8 @@ use Rattle.segment_grammar.specs.declared.potentials.Pot.{Pot}
 use Rattle.segment_grammar.specs.Pots.{pot}
 use Rattle.segment_grammar.specs.Index.{ListsSteps, IsPushFrom, IsPushInto, IsPopAt}
 use Rattle.segment_grammar.proofs.Places.{contains_at, at_contains, same_at, slice_get-below}
-use Rattle.knuth_search.specs.Following.{zero, stepped, IsCovered, IsStepOf, FlatBy, OpenedBy, NestedBy, Enters, Meets, Closes, PushedBy, Fills, SomePot, AtPlace, Among, Offers}
+use Rattle.knuth_search.specs.Following.{zero, stepped, IsCovered, IsStepOf, FlatBy, OpenedBy, NestedBy, Enters, Meets, Closes, PushedBy, Fills, SomePot, AtPlace, Among, IsOffered, Offers}
+use Rattle.knuth_search.specs.Tables.{Queued}
 use Rattle.knuth_search.proofs.Filed.{covered_itself}
 
 pub contains_head : {X : Type 0} (x : X) (xs : List X) → Contains (x ∷ xs) x
@@ -32,74 +33,75 @@ contains_cases x y xs p = go p.0 p.1 p.2
     go nought l e = inr (sym e)
     go (suc k) l e = inl (k, omega arith, e)
 
+-- nothing follows
+pub offers_none : (R : Pot → Type 0) (old : Queued) → ((p : Pot) → R p → ⊥) → Offers R old old
+offers_none R old none = record { kept = λ p h. h; waits = λ p h. h; held = λ p h. inl h; all = λ p r. absurd (none p r) }
+
+-- one follows, and it was offered
+pub offers_covered : (R : Pot → Type 0) (old : Queued) (x : Pot) → IsOffered old x → ((p : Pot) → R p → p ≡ x) → Offers R old old
+offers_covered R old x o is = record { kept = λ p h. h; waits = λ p h. h; held = λ p h. inl h; all = λ p r. subst (λ v. IsOffered old v) (sym (is p r)) o }
+
+pub offers_same : (R S : Pot → Type 0) (old new : Queued) → Offers R old new → ((p : Pot) → S p → R p) → Offers S old new
+offers_same R S old new offers back = record { kept = offers.kept; waits = offers.waits; held = offers.held; all = λ p s. offers.all p (back p s) }
+
+-- one follows, and it is offered
+pub offers_pushed : (R : Pot → Type 0) (old new : Queued) (x : Pot) → Offers (λ p. p ≡ x) old new → ((p : Pot) → R p → p ≡ x) → Offers R old new
+offers_pushed R old new x offers is = offers_same (λ p. p ≡ x) R old new offers is
+
+pub covered_in : (list list' : List Pot) → ((p : Pot) → Contains list p → Contains list' p) → (p : Pot) → IsCovered list p → IsCovered list' p
+covered_in list list' kept p c = record { weight = c.weight; listed = kept (pot p.root p.state c.weight) c.listed; at_most = c.at_most }
+
+pub offers_then : (R S U : Pot → Type 0) (old now new : Queued) → Offers R old now → Offers S now new → ((p : Pot) → U p → R p ⊎ S p) → Offers U old new
+offers_then R S U old now new first second back = record {
+  kept = λ p h. second.kept p (first.kept p h);
+  waits = λ p h. second.waits p (first.waits p h);
+  held = λ p h. elim (second.held p h) as (λ v. IsOffered old p ⊎ IsCovered new.waiting p) [
+    | inl o ↦ elim (first.held p o) as (λ v. IsOffered old p ⊎ IsCovered new.waiting p) [ inl a ↦ inl a | inr c ↦ inr (covered_in now.waiting new.waiting second.waits p c) ]
+    | inr c ↦ inr c
+  ];
+  all = λ p u. elim (back p u) as (λ v. IsOffered new p) [ inl r ↦ second.kept p (first.all p r) | inr s ↦ second.all p s ];
+}
+
+number_cases : (i n : ℕ) → i < n + 1 → (i < n) ⊎ (i ≡ n)
+number_cases i n l = elim (cases_lt i n) as (λ v. (i < n) ⊎ (i ≡ n)) [ inl a ↦ inl a | inr b ↦ inr (omega arith) ]
+
+module _ {X : Type 0} (R : X → Pot → Type 0) (xs : List X) where
+  pub offers_first : (old : Queued) → Offers (Among R xs 0) old old
+  offers_first old = offers_none (Among R xs 0) old (λ p a. let l : a.number < 0 = a.early in omega arith)
+
+  among_cases : (n : ℕ) (x : X) → slice_get xs n ≡ Some x → (p : Pot) → Among R xs (n + 1) p → Among R xs n p ⊎ R x p
+  among_cases n x found p a = go (number_cases a.number n a.early)
+    where
+      go : (a.number < n) ⊎ (a.number ≡ n) → Among R xs n p ⊎ R x p
+      go (inl l) = inl (record { number = a.number; early = l; item = a.item; found = a.found; gives = a.gives })
+      go (inr e) = inr (subst (λ v. R v p) (same_at xs n a.item x (subst (λ i. slice_get xs i ≡ Some a.item) e a.found) found) a.gives)
+
+  -- a loop's step
+  pub offers_more : (n : ℕ) (x : X) → slice_get xs n ≡ Some x → (old now new : Queued) → Offers (Among R xs n) old now → Offers (R x) now new → Offers (Among R xs (n + 1)) old new
+  offers_more n x found old now new first second = offers_then (Among R xs n) (R x) (Among R xs (n + 1)) old now new first second (among_cases n x found)
+
+  -- a loop's end, over a list that has each item that gives something
+  pub offers_listed : (S : Pot → Type 0) (n : ℕ) → n ≡ length xs → ((p : Pot) → S p → (x : X) × Contains xs x × R x p) → (old new : Queued) → Offers (Among R xs n) old new → Offers S old new
+  offers_listed S n whole back old new offers = offers_same (Among R xs n) S old new offers (λ p s. among p (back p s))
+    where
+      among : (p : Pot) → (x : X) × Contains xs x × R x p → Among R xs n p
+      among p b =
+          let at : (i : ℕ) × (i < length xs) × (slice_get xs i ≡ Some b.0) = at_contains xs b.0 b.1 in
+          record { number = at.0; early = subst (λ m. at.0 < m) (sym whole) at.1; item = b.0; found = at.2; gives = b.2 }
+
 module _ (table : List Pot) where
-  -- nothing follows
-  pub offers_none : (R : Pot → Type 0) (old : List Pot) → ((p : Pot) → R p → ⊥) → Offers table R old old
-  offers_none R old none = record { kept = λ p h. h; all = λ p r. absurd (none p r) }
-
-  -- one follows, and the table has it
-  pub offers_covered : (R : Pot → Type 0) (old : List Pot) (x : Pot) → IsCovered table x → ((p : Pot) → R p → p ≡ x) → Offers table R old old
-  offers_covered R old x c is = record { kept = λ p h. h; all = λ p r. inl (subst (λ v. IsCovered table v) (sym (is p r)) c) }
-
-  -- one follows, and it is pushed
-  pub offers_pushed : (R : Pot → Type 0) (old new : List Pot) (x : Pot) → IsPermutation (x ∷ old) new → ((p : Pot) → R p → p ≡ x) → Offers table R old new
-  offers_pushed R old new x moved is = record {
-    kept = λ p h. Contains-permutation (x ∷ old) new p moved (contains_tail x p old h);
-    all = λ p r. inr (subst (λ v. IsCovered new v) (sym (is p r)) (covered_itself new x (Contains-permutation (x ∷ old) new x moved (contains_head x old))));
-  }
-
-  covered_more : (old new : List Pot) → ((p : Pot) → Contains old p → Contains new p) → (p : Pot) → IsCovered table p ⊎ IsCovered old p → IsCovered table p ⊎ IsCovered new p
-  covered_more old new kept p (inl c) = inl c
-  covered_more old new kept p (inr c) = inr (record { weight = c.weight; listed = kept (pot p.root p.state c.weight) c.listed; at_most = c.at_most })
-
-  pub offers_then : (R S U : Pot → Type 0) (old now new : List Pot) → Offers table R old now → Offers table S now new → ((p : Pot) → U p → R p ⊎ S p) → Offers table U old new
-  offers_then R S U old now new first second back = record {
-    kept = λ p h. second.kept p (first.kept p h);
-    all = λ p u. elim (back p u) as (λ v. IsCovered table p ⊎ IsCovered new p) [ inl r ↦ covered_more now new second.kept p (first.all p r) | inr s ↦ second.all p s ];
-  }
-
-  pub offers_same : (R S : Pot → Type 0) (old new : List Pot) → Offers table R old new → ((p : Pot) → S p → R p) → Offers table S old new
-  offers_same R S old new offers back = record { kept = offers.kept; all = λ p s. offers.all p (back p s) }
-
-  number_cases : (i n : ℕ) → i < n + 1 → (i < n) ⊎ (i ≡ n)
-  number_cases i n l = elim (cases_lt i n) as (λ v. (i < n) ⊎ (i ≡ n)) [ inl a ↦ inl a | inr b ↦ inr (omega arith) ]
-
-  module _ {X : Type 0} (R : X → Pot → Type 0) (xs : List X) where
-    pub offers_first : (old : List Pot) → Offers table (Among R xs 0) old old
-    offers_first old = offers_none (Among R xs 0) old (λ p a. let l : a.number < 0 = a.early in omega arith)
-
-    among_cases : (n : ℕ) (x : X) → slice_get xs n ≡ Some x → (p : Pot) → Among R xs (n + 1) p → Among R xs n p ⊎ R x p
-    among_cases n x found p a = go (number_cases a.number n a.early)
-      where
-        go : (a.number < n) ⊎ (a.number ≡ n) → Among R xs n p ⊎ R x p
-        go (inl l) = inl (record { number = a.number; early = l; item = a.item; found = a.found; gives = a.gives })
-        go (inr e) = inr (subst (λ v. R v p) (same_at xs n a.item x (subst (λ i. slice_get xs i ≡ Some a.item) e a.found) found) a.gives)
-
-    -- a loop's step
-    pub offers_more : (n : ℕ) (x : X) → slice_get xs n ≡ Some x → (old now new : List Pot) → Offers table (Among R xs n) old now → Offers table (R x) now new → Offers table (Among R xs (n + 1)) old new
-    offers_more n x found old now new first second = offers_then (Among R xs n) (R x) (Among R xs (n + 1)) old now new first second (among_cases n x found)
-
-    -- a loop's end, over a list that has each item that gives something
-    pub offers_listed : (S : Pot → Type 0) (n : ℕ) → n ≡ length xs → ((p : Pot) → S p → (x : X) × Contains xs x × R x p) → (old new : List Pot) → Offers table (Among R xs n) old new → Offers table S old new
-    offers_listed S n whole back old new offers = offers_same (Among R xs n) S old new offers (λ p s. among p (back p s))
-      where
-        among : (p : Pot) → (x : X) × Contains xs x × R x p → Among R xs n p
-        among p b =
-            let at : (i : ℕ) × (i < length xs) × (slice_get xs i ≡ Some b.0) = at_contains xs b.0 b.1 in
-            record { number = at.0; early = subst (λ m. at.0 < m) (sym whole) at.1; item = b.0; found = at.2; gives = b.2 }
-
   -- what stands at a place
-  pub offers_at : (R : Pot → Pot → Type 0) (place : ℕ) (x : Pot) → slice_get table place ≡ Some x → (old new : List Pot) → Offers table (λ p. R x p) old new → Offers table (AtPlace table R place) old new
+  pub offers_at : (R : Pot → Pot → Type 0) (place : ℕ) (x : Pot) → slice_get table place ≡ Some x → (old new : Queued) → Offers (λ p. R x p) old new → Offers (AtPlace table R place) old new
   offers_at R place x found old new offers = offers_same (λ p. R x p) (AtPlace table R place) old new offers
       (λ p a. subst (λ v. R v p) (same_at table place a.item x a.found found) a.gives)
 
   no_item : (i : ℕ) (x : Pot) → slice_get table i ≡ None → slice_get table i ≡ Some x → ⊥
   no_item i x p q = cc
 
-  pub offers_nowhere : (R : Pot → Pot → Type 0) (place : ℕ) → slice_get table place ≡ None → (old : List Pot) → Offers table (AtPlace table R place) old old
+  pub offers_nowhere : (R : Pot → Pot → Type 0) (place : ℕ) → slice_get table place ≡ None → (old : Queued) → Offers (AtPlace table R place) old old
   offers_nowhere R place gone old = offers_none (AtPlace table R place) old (λ p a. no_item place a.item gone a.found)
 
-  pub offers_not_at : (R : Pot → Pot → Type 0) (place : ℕ) (x : Pot) → slice_get table place ≡ Some x → ((p : Pot) → R x p → ⊥) → (old : List Pot) → Offers table (AtPlace table R place) old old
+  pub offers_not_at : (R : Pot → Pot → Type 0) (place : ℕ) (x : Pot) → slice_get table place ≡ Some x → ((p : Pot) → R x p → ⊥) → (old : Queued) → Offers (AtPlace table R place) old old
   offers_not_at R place x found none old = offers_none (AtPlace table R place) old (λ p a. none p (subst (λ v. R v p) (same_at table place a.item x a.found found) a.gives))
 
 -- what one step gives is one pot

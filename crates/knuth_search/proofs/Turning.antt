@@ -9,7 +9,7 @@ use Rattle.ml_base.specs.declared.numbers.Root.{Root}
 use Rattle.ml_base.specs.declared.numbers.Root.TheVariants.{Request, Entry}
 use Rattle.ml_base.specs.declared.weight.Weight.{Weight}
 use Rattle.ml_base.specs.Weight.{cap, capped_total, IsCappedAtMost}
-use Rattle.ml_base.proofs.Laws.{full, cap-total, capped_total-at_most, at_most-same, at_most-trans}
+use Rattle.ml_base.proofs.Laws.{full, cap-total, capped_total-at_most, at_most-same, at_most-trans, at_most-either}
 use Rattle.walk_grammar.specs.System as walk
 use Rattle.walk_grammar.proofs.Grammar.{Rules, rules_complete}
 use Rattle.adapt_machine.specs.declared.MachineStep.{MachineStep}
@@ -22,18 +22,17 @@ use Rattle.deriv_arena.specs.declared.Deriv.{Deriv}
 use Rattle.deriv_arena.specs.Derivation.{unfolding_of}
 use Rattle.knuth_search.specs.Derived.{Task, IsDerived}
 use Rattle.knuth_search.proofs.Deriving.{derived_segment, derived_weight}
-use Rattle.knuth_search.specs.Following.{zero, stepped, IsCovered, IsStepOf, NestedBy, Closes, PushedBy, Extends, Fills, SomePot, Offers}
-use Rattle.knuth_search.specs.Searching.{Begins, Turns, IsComplete}
+use Rattle.knuth_search.specs.Following.{zero, stepped, IsCovered, IsOffered, IsBeaten, IsStepOf, NestedBy, Closes, PushedBy, Extends, Fills, SomePot, Offers}
+use Rattle.knuth_search.specs.Tables.{Queued, root_key, weight_in}
+use Rattle.knuth_search.specs.Searching.{Begins, Follows, Turns, IsComplete}
 use Rattle.knuth_search.proofs.Filed.{covered_itself}
-use Rattle.knuth_search.proofs.Offering.{contains_cases}
+use Rattle.knuth_search.proofs.Offering.{contains_cases, covered_in}
 
--- each start, and all that follows in one step or nest from the table, is in the table or the queue, at no more
-pub record IsSearching (steps : List MachineStep) (starts : List StateNo) (table queue : List Pot) : Type 0 where
-  pub begun : (a : StateNo) → Contains starts a → IsCovered table (pot Request a zero) ⊎ IsCovered queue (pot Request a zero)
-  pub closed : (v p : Pot) → Contains table v → Extends steps table v p → IsCovered table p ⊎ IsCovered queue p
-
-covered_in : (list list' : List Pot) → ((p : Pot) → Contains list p → Contains list' p) → (p : Pot) → IsCovered list p → IsCovered list' p
-covered_in list list' kept p c = record { weight = c.weight; listed = kept (pot p.root p.state c.weight) c.listed; at_most = c.at_most }
+-- each start, and all that follows in one step or nest from the table, was offered; what was offered is in the table or waits, at no more
+pub record IsSearching (steps : List MachineStep) (starts : List StateNo) (table : List Pot) (queue : Queued) : Type 0 where
+  pub begun : (a : StateNo) → Contains starts a → IsOffered queue (pot Request a zero)
+  pub closed : (v p : Pot) → Contains table v → Extends steps table v p → IsOffered queue p
+  pub stands : (p : Pot) → IsOffered queue p → IsCovered table p ⊎ IsCovered queue.waiting p
 
 covered_by : (list : List Pot) (p q : Pot) → IsCovered list q → (w : Weight) → pot p.root p.state w ≡ q → IsCappedAtMost w p.weight → IsCovered list p
 covered_by list p q c w e m =
@@ -66,51 +65,99 @@ module _ (steps : List MachineStep) (table table' : List Pot) (next : Pot) (adde
       go (inl o) = inl (again (inl o))
       go (inr n) = nested n (only_there n.item n.listed)
 
-module _ (steps : List MachineStep) (starts : List StateNo) (table queue rest : List Pot) (next : Pot) (table' queue' : List Pot) (popped : IsPermutation queue (next ∷ rest)) where
-  after : ((p : Pot) → Contains table p → Contains table' p) → ((p : Pot) → Contains rest p → Contains queue' p) → IsCovered table' next → (p : Pot) → IsCovered table p ⊎ IsCovered queue p → IsCovered table' p ⊎ IsCovered queue' p
-  after kept waits there p (inl c) = inl (covered_in table table' kept p c)
-  after kept waits there p (inr c) = go (contains_cases next (pot p.root p.state c.weight) rest (Contains-permutation queue (next ∷ rest) (pot p.root p.state c.weight) popped c.listed))
-    where
-      go : Contains rest (pot p.root p.state c.weight) ⊎ (pot p.root p.state c.weight ≡ next) → IsCovered table' p ⊎ IsCovered queue' p
-      go (inl r) = inr (record { weight = c.weight; listed = waits (pot p.root p.state c.weight) r; at_most = c.at_most })
-      go (inr e) = inl (covered_by table' p next there c.weight e c.at_most)
+lighter_of : (u w : Weight) → (IsCappedAtMost w u → ⊥) → IsCappedAtMost u w
+lighter_of u w less = elim (at_most-either u w) as (λ v. IsCappedAtMost u w) [ inl a ↦ a | inr b ↦ absurd (less b) ]
 
-  pub searching_turn : Turns steps table rest next table' queue' → IsSearching steps starts table queue → IsSearching steps starts table' queue'
-  searching_turn (inl same) is =
-      let kept : (p : Pot) → Contains table p → Contains table' p = λ p c. subst (λ v. Contains v p) (sym same.1) c in
-      let back : (p : Pot) → Contains table' p → Contains table p = λ p c. subst (λ v. Contains v p) same.1 c in
-      let waits : (p : Pot) → Contains rest p → Contains queue' p = λ p c. subst (λ v. Contains v p) (sym same.2) c in
-      let there : IsCovered table' next = covered_in table table' kept next same.0 in
-      record {
-        begun = λ a c. after kept waits there (pot Request a zero) (is.begun a c);
-        closed = λ v p c e. after kept waits there p (is.closed v p (back v c) (subst (λ t. Extends steps t v p) same.1 e));
-      }
-  searching_turn (inr puts) is =
-      let kept : (p : Pot) → Contains table p → Contains table' p = kept_there steps table table' next puts.0 in
-      let there : IsCovered table' next = covered_itself table' next (next_there steps table table' next puts.0) in
-      record {
-        begun = λ a c. after kept puts.1.kept there (pot Request a zero) (is.begun a c);
-        closed = λ v p c e. elim (only_there steps table table' next puts.0 v c) as (λ w. IsCovered table' p ⊎ IsCovered queue' p) [
-          | inl old ↦ elim (extends_split steps table table' next puts.0 v p c e) as (λ w. IsCovered table' p ⊎ IsCovered queue' p) [
-            | inl f ↦ after kept puts.1.kept there p (is.closed v p old f)
-            | inr g ↦ puts.1.all p (inr g)
+-- a pair that leaves the queue
+module _ (steps : List MachineStep) (starts : List StateNo) (table : List Pot) (queue popped : Queued) (next : Pot)
+    (moved : IsPermutation queue.waiting (next ∷ popped.waiting)) (same : popped.offered ≡ queue.offered) (is : IsSearching steps starts table queue) where
+  was_offered : (p : Pot) → IsOffered popped p → IsOffered queue p
+  was_offered p o = record { weight = o.weight; found = subst (λ m. weight_in m (root_key p.root) p.state.0 ≡ Some o.weight) same o.found; at_most = o.at_most }
+
+  still_offered : (p : Pot) → IsOffered queue p → IsOffered popped p
+  still_offered p o = record { weight = o.weight; found = subst (λ m. weight_in m (root_key p.root) p.state.0 ≡ Some o.weight) (sym same) o.found; at_most = o.at_most }
+
+  -- what covered a pot covers it still, or has left
+  waits_or_left : (p : Pot) → IsCovered queue.waiting p → IsCovered popped.waiting p ⊎ ((w : Weight) × (pot p.root p.state w ≡ next) × IsCappedAtMost w p.weight)
+  waits_or_left p c = elim (contains_cases next (pot p.root p.state c.weight) popped.waiting (Contains-permutation queue.waiting (next ∷ popped.waiting) (pot p.root p.state c.weight) moved c.listed))
+      as (λ v. IsCovered popped.waiting p ⊎ ((w : Weight) × (pot p.root p.state w ≡ next) × IsCappedAtMost w p.weight)) [
+        | inl r ↦ inl (record { weight = c.weight; listed = r; at_most = c.at_most })
+        | inr e ↦ inr (c.weight, e, c.at_most)
+      ]
+
+  -- a pair that was offered at less need not wait
+  module _ (beaten : IsBeaten popped next) where
+    lighter_next : IsCovered table next ⊎ IsCovered popped.waiting next
+    lighter_next =
+        let at : Pot = pot next.root next.state beaten.weight in
+        let lower : IsCappedAtMost beaten.weight next.weight = lighter_of beaten.weight next.weight beaten.less in
+        elim (is.stands at (was_offered at (record { weight = beaten.weight; found = beaten.found; at_most = at_most-same beaten.weight }))) as (λ v. IsCovered table next ⊎ IsCovered popped.waiting next) [
+          | inl c ↦ inl (covered_by table next at c beaten.weight refl lower)
+          | inr c ↦ elim (waits_or_left at c) as (λ v. IsCovered table next ⊎ IsCovered popped.waiting next) [
+            | inl d ↦ inr (covered_by popped.waiting next at d beaten.weight refl lower)
+            | inr d ↦ absurd (beaten.less (subst (λ w. IsCappedAtMost w beaten.weight) (ap (λ v. v.weight) d.1) d.2))
           ]
-          | inr same ↦ puts.1.all p (inl (subst (λ w. Extends steps table' w p) same e))
-        ];
-      }
+        ]
+
+    beaten_stands : (p : Pot) → IsOffered popped p → IsCovered table p ⊎ IsCovered popped.waiting p
+    beaten_stands p o = elim (is.stands p (was_offered p o)) as (λ v. IsCovered table p ⊎ IsCovered popped.waiting p) [
+      | inl c ↦ inl c
+      | inr c ↦ elim (waits_or_left p c) as (λ v. IsCovered table p ⊎ IsCovered popped.waiting p) [
+        | inl d ↦ inr d
+        | inr d ↦ elim lighter_next as (λ v. IsCovered table p ⊎ IsCovered popped.waiting p) [ inl t ↦ inl (covered_by table p next t d.0 d.1 d.2) | inr q ↦ inr (covered_by popped.waiting p next q d.0 d.1 d.2) ]
+      ]
+    ]
+
+    turn_beaten : IsSearching steps starts table popped
+    turn_beaten = record { begun = λ a c. still_offered (pot Request a zero) (is.begun a c); closed = λ v p c e. still_offered p (is.closed v p c e); stands = beaten_stands }
+
+  -- a pair that is put into the table
+  module _ (table' : List Pot) (queue' : Queued) (added : table' ≡ table ++ next ∷ []) (offers : Offers (λ p. Follows steps table' next p) popped queue') where
+    put_closed : (v p : Pot) → Contains table' v → Extends steps table' v p → IsOffered queue' p
+    put_closed v p c e = elim (only_there steps table table' next added v c) as (λ w. IsOffered queue' p) [
+      | inl old ↦ elim (extends_split steps table table' next added v p c e) as (λ w. IsOffered queue' p) [ inl f ↦ offers.kept p (still_offered p (is.closed v p old f)) | inr g ↦ offers.all p (inr g) ]
+      | inr s ↦ offers.all p (inl (subst (λ w. Extends steps table' w p) s e))
+    ]
+
+    put_next : IsCovered table' next
+    put_next = covered_itself table' next (next_there steps table table' next added)
+
+    put_stands : (p : Pot) → IsOffered queue' p → IsCovered table' p ⊎ IsCovered queue'.waiting p
+    put_stands p o = elim (offers.held p o) as (λ v. IsCovered table' p ⊎ IsCovered queue'.waiting p) [
+      | inr c ↦ inr c
+      | inl old ↦ elim (is.stands p (was_offered p old)) as (λ v. IsCovered table' p ⊎ IsCovered queue'.waiting p) [
+        | inl c ↦ inl (covered_in table table' (kept_there steps table table' next added) p c)
+        | inr c ↦ elim (waits_or_left p c) as (λ v. IsCovered table' p ⊎ IsCovered queue'.waiting p) [
+          | inl d ↦ inr (covered_in popped.waiting queue'.waiting offers.waits p d)
+          | inr d ↦ inl (covered_by table' p next put_next d.0 d.1 d.2)
+        ]
+      ]
+    ]
+
+    turn_put : IsSearching steps starts table' queue'
+    turn_put = record { begun = λ a c. offers.kept (pot Request a zero) (still_offered (pot Request a zero) (is.begun a c)); closed = put_closed; stands = put_stands }
+
+  pub searching_turn : (table' : List Pot) (queue' : Queued) → Turns steps table popped next table' queue' → IsSearching steps starts table' queue'
+  searching_turn table' queue' (inl s) = subst (λ t. IsSearching steps starts t queue') (sym s.1) (subst (λ q. IsSearching steps starts table q) (sym s.2) (turn_beaten s.0))
+  searching_turn table' queue' (inr s) = turn_put table' queue' s.0 s.1
 
 -- before the first turn
-pub searching_begun : (steps : List MachineStep) (starts : List StateNo) (table old queue : List Pot) → table ≡ [] → Offers [] (λ p. Begins starts p) old queue → IsSearching steps starts table queue
-searching_begun steps starts table old queue empty offers = record {
-  begun = λ a c. elim (offers.all (pot Request a zero) (a, c, refl)) as (λ v. IsCovered table (pot Request a zero) ⊎ IsCovered queue (pot Request a zero)) [
-    | inl b ↦ absurd (none (pot Request a b.weight) b.listed)
+pub searching_begun : (steps : List MachineStep) (starts : List StateNo) (table : List Pot) (old queue : Queued) → table ≡ [] → old.offered ≡ [] → Offers (λ p. Begins starts p) old queue
+    → IsSearching steps starts table queue
+searching_begun steps starts table old queue empty fresh offers = record {
+  begun = λ a c. offers.all (pot Request a zero) (a, c, refl);
+  closed = λ v p c e. absurd (none v (subst (λ t. Contains t v) empty c));
+  stands = λ p o. elim (offers.held p o) as (λ v. IsCovered table p ⊎ IsCovered queue.waiting p) [
+    | inl b ↦ absurd (never p b.weight (subst (λ m. weight_in m (root_key p.root) p.state.0 ≡ Some b.weight) fresh b.found))
     | inr b ↦ inr b
   ];
-  closed = λ v p c e. absurd (none v (subst (λ t. Contains t v) empty c));
 }
   where
     none : (p : Pot) → Contains [] p → ⊥
     none p c = omega (arith, c.1)
+
+    never : (p : Pot) (w : Weight) → weight_in [] (root_key p.root) p.state.0 ≡ Some w → ⊥
+    never p w e = cc
 
 abbrev root_of : walk.Origin StateNo → Root
 root_of walk.Request = Request
@@ -121,10 +168,12 @@ root_same Request = refl
 root_same (Entry x) = refl
 
 -- after the last turn
-module _ (steps : List MachineStep) (starts : List StateNo) (table : List Pot) (is : IsSearching steps starts table []) where
-  in_table : (p : Pot) → IsCovered table p ⊎ IsCovered [] p → IsCovered table p
-  in_table p (inl c) = c
-  in_table p (inr c) = absurd (omega (arith, c.listed.1))
+module _ (steps : List MachineStep) (starts : List StateNo) (table : List Pot) (queue : Queued) (ended : queue.waiting ≡ []) (is : IsSearching steps starts table queue) where
+  in_table : (p : Pot) → IsOffered queue p → IsCovered table p
+  in_table p o = elim (is.stands p o) as (λ v. IsCovered table p) [ inl c ↦ c | inr c ↦ absurd (none (subst (λ l. IsCovered l p) ended c)) ]
+    where
+      none : IsCovered [] p → ⊥
+      none c = omega (arith, c.listed.1)
 
   -- the table has the pair at no more than this weight
   abbrev Within : walk.Origin StateNo → StateNo → ℕ → ℕ → Type 0

@@ -9,6 +9,7 @@ use Rattle.adapt_machine.specs.declared.MachineStep.{MachineStep}
 use Rattle.segment_grammar.specs.declared.potentials.Pot.{Pot}
 use Rattle.segment_grammar.specs.Pots.{pot}
 use Rattle.segment_grammar.specs.Index.{IsFlatFrom, IsPushFrom, IsPopAt}
+use Rattle.knuth_search.specs.Tables.{Queued, root_key, weight_in}
 
 abbrev pub zero : Weight
 zero = cap (record { cost = 0; hops = 0 })
@@ -79,10 +80,28 @@ Extends steps table prev p = SomeStep (λ k p. FlatBy steps prev k p) p ⊎ Some
 abbrev pub Fills : List MachineStep → List Pot → Pot → Pot → Type 0
 Fills steps table inner p = SomeStep (λ k p. SomePot table (λ prev p. Closes steps prev k inner p) p) p
 
--- `new` lists what `old` lists, and what `R` says is there or in the table, at no more
-pub record Offers (table : List Pot) (R : Pot → Type 0) (old new : List Pot) : Type 0 where
-  pub kept : (p : Pot) → Contains old p → Contains new p
-  pub all : (p : Pot) → R p → IsCovered table p ⊎ IsCovered new p
+-- the pair of `p` was offered at no more than its weight
+pub record IsOffered (queue : Queued) (p : Pot) : Type 0 where
+  pub weight : Weight
+  pub found : weight_in queue.offered (root_key p.root) p.state.0 ≡ Some weight
+  pub at_most : IsCappedAtMost weight p.weight
+
+-- `p` weighs no more than what its pair was offered at, if it was
+abbrev pub IsNoHeavier : Queued → Pot → Type 0
+IsNoHeavier queue p = (w : Weight) → weight_in queue.offered (root_key p.root) p.state.0 ≡ Some w → IsCappedAtMost p.weight w
+
+-- the pair of `p` was offered at less
+pub record IsBeaten (queue : Queued) (p : Pot) : Type 0 where
+  pub weight : Weight
+  pub found : weight_in queue.offered (root_key p.root) p.state.0 ≡ Some weight
+  pub less : IsCappedAtMost p.weight weight → ⊥
+
+-- what `R` says is offered, at no more; what was offered or waited still is and does, and what is offered beside it waits
+pub record Offers (R : Pot → Type 0) (old new : Queued) : Type 0 where
+  pub kept : (p : Pot) → IsOffered old p → IsOffered new p
+  pub waits : (p : Pot) → Contains old.waiting p → Contains new.waiting p
+  pub held : (p : Pot) → IsOffered new p → IsOffered old p ⊎ IsCovered new.waiting p
+  pub all : (p : Pot) → R p → IsOffered new p
 
 -- the pot at a place relates to `p`
 pub record AtPlace (table : List Pot) (R : Pot → Pot → Type 0) (place : ℕ) (p : Pot) : Type 0 where

@@ -1,6 +1,6 @@
 pub mod Derived
-pub mod Following
 pub mod Tables
+pub mod Following
 pub mod Searching
 pub mod Settled
 pub mod Gathered

@@ -1,16 +1,14 @@
 -- The table of settled pairs and the queue of candidates.
-use Rattle.std.specs.Prelude.{◌≡◌, ℕ, ◌<◌, List, length, map, slice_get, Option, Some, None}
+use Rattle.std.specs.Prelude.{◌≡◌, ℕ, ◌<◌, Bool, ◌&&◌, nat_eq, List, length, map, slice_get, Option, Some, None}
 use Rattle.std.specs.List.{Contains, All}
 use Rattle.std.specs.Map.{lookup}
-use Rattle.std.specs.BTreeMap.{is_at}
-use Rattle.std.specs.Ordering.{nat_cmp, ordering_then}
-use Rattle.std.specs.Option.{option_cmp}
+use Rattle.std.specs.Option.{option_eq}
 use Rattle.ml_base.specs.declared.numbers.StateNo.{StateNo}
 use Rattle.ml_base.specs.declared.numbers.Root.{Root}
 use Rattle.ml_base.specs.declared.numbers.Root.TheVariants.{Request, Entry}
-use Rattle.ml_base.specs.Weight.{IsCappedAtMost}
+use Rattle.ml_base.specs.declared.weight.Weight.{Weight}
 use Rattle.segment_grammar.specs.declared.potentials.Pot.{Pot}
-use Rattle.segment_grammar.specs.Pots.{pot, IsOfPair}
+use Rattle.segment_grammar.specs.Pots.{pot}
 use Rattle.segment_grammar.specs.Rows.{row_of}
 use Rattle.knuth_search.specs.declared.derived.Derived.{Derived}
 use Rattle.knuth_search.specs.Derived.{Task, IsDerived}
@@ -20,45 +18,45 @@ pub record Listed : Type 0 where
   pub task : Task
   pub pots : List Pot
 
+-- the candidates that wait, and the least weight at which each pair was ever offered
+pub record Queued : Type 0 where
+  pub task : Task
+  pub waiting : List Pot
+  pub offered : List ((Option ℕ × ℕ) × Weight)
+
 abbrev pub pot_of : Derived → Pot
 pot_of d = pot d.root d.state d.weight
 
 abbrev pub IsKept : Task → Derived → Type 0
 IsKept task d = IsDerived task (pot_of d) d.deriv.now
 
--- a key of the root, by which the request comes first
+-- the request, or the entered state
 abbrev pub root_key : Root → Option ℕ
 root_key Request = None
 root_key (Entry x) = Some x.0
 
--- the place that a map has for a pair
-abbrev pub place_in : List ((Option ℕ × ℕ) × ℕ) → Option ℕ → ℕ → Option ℕ
-place_in places a b = lookup (is_at (λ (p : Option ℕ × ℕ). ordering_then (option_cmp nat_cmp a p.0) (nat_cmp b p.1))) places
+-- the two keys are the same
+abbrev pub is_key : Option ℕ → ℕ → Option ℕ → ℕ → Bool
+is_key a b c d = option_eq nat_eq a c && nat_eq b d
+
+-- the weight that a map has for a pair
+abbrev pub weight_in : List ((Option ℕ × ℕ) × Weight) → Option ℕ → ℕ → Option Weight
+weight_in offered a b = lookup (λ (p : Option ℕ × ℕ). is_key a b p.0 p.1) offered
 
 -- the list has the place of each pot that passes the test; it may have more
 abbrev pub ListsPlaces : List Pot → (Pot → Type 0) → List ℕ → Type 0
 ListsPlaces pots test list = (i : ℕ) (p : Pot) → slice_get pots i ≡ Some p → test p → Contains list i
 
--- a map has a place for the pair of `p` where the pair stands at no more than its weight
-pub record IsPlaced (places : List ((Option ℕ × ℕ) × ℕ)) (pots : List Pot) (p : Pot) : Type 0 where
-  pub place : ℕ
-  pub found : place_in places (root_key p.root) p.state.0 ≡ Some place
-  pub item : Pot
-  pub stands : slice_get pots place ≡ Some item
-  pub same : IsOfPair item p.root p.state
-  pub at_most : IsCappedAtMost item.weight p.weight
-
--- rows have the places of the pots, by root and by state, and a map has the place of each pair where it is least
-pub record IsFiled (states : ℕ) (pots : List Pot) (by_root by_state : List (List ℕ)) (places : List ((Option ℕ × ℕ) × ℕ)) : Type 0 where
+-- rows have the places of the pots, by root and by state
+pub record IsFiled (states : ℕ) (pots : List Pot) (by_root by_state : List (List ℕ)) : Type 0 where
   pub root_rooms : length by_root ≡ states
   pub state_rooms : length by_state ≡ states
   pub under : (x : StateNo) → x.0 < states → ListsPlaces pots (λ p. p.root ≡ Entry x) (row_of by_root x.0)
   pub at : (x : StateNo) → x.0 < states → ListsPlaces pots (λ p. p.state ≡ x) (row_of by_state x.0)
-  pub placed : (p : Pot) → Contains pots p → IsPlaced places pots p
 
 -- the items of a table for this task, filed
-pub record AreStored (task : Task) (items : List Derived) (by_root by_state : List (List ℕ)) (places : List ((Option ℕ × ℕ) × ℕ)) : Type 0 where
-  pub filed : IsFiled task.machine.states (map pot_of items) by_root by_state places
+pub record AreStored (task : Task) (items : List Derived) (by_root by_state : List (List ℕ)) : Type 0 where
+  pub filed : IsFiled task.machine.states (map pot_of items) by_root by_state
   pub kept : All (IsKept task) items
 
 -- rows have what they had

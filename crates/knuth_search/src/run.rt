@@ -18,7 +18,7 @@ use adapt_machine::Machine;
 use bumpalo::Bump;
 use deriv_arena::root;
 use ml_base::{NoMemory, Root, StateNo, Weight};
-use segment_grammar::Index;
+use segment_grammar::{Index, Pot};
 use std::alloc::Global;
 
 fn begin_at<'m, 'a>(
@@ -29,13 +29,21 @@ fn begin_at<'m, 'a>(
     requires start { Contains queue.old.task.starts start }
     requires within { start.0 < queue.old.task.machine.states }
     ensures task { queue.new.task ≡ queue.old.task }
-    ensures offers { IfOk result (λ _. Offers [] (λ p. p ≡ pot Request start zero) queue.old.pots queue.new.pots) }
+    ensures offers { IfOk result (λ _. Offers (λ p. p ≡ pot Request start zero) queue.old queue.new) }
 {
-    let deriv = root(arena, start)?;
-    queue.push(Derived {
-        weight: Weight::zero(),
+    let pot = Pot {
         root: Root::Request,
         state: start,
+        weight: Weight::zero(),
+    };
+    if queue.covers(pot) {
+        return Ok(());
+    }
+    let deriv = root(arena, start)?;
+    queue.push(Derived {
+        weight: pot.weight,
+        root: pot.root,
+        state: pot.state,
         deriv,
     })?;
     Ok(())
@@ -49,7 +57,7 @@ fn begin<'m, 'a>(
     requires starts { queue.old.task.starts ≡ starts.now }
     requires within { (a : StateNo) → Contains starts.now a → a.0 < queue.old.task.machine.states }
     ensures task { queue.new.task ≡ queue.old.task }
-    ensures offers { IfOk result (λ _. Offers [] (λ p. Begins starts.now p) queue.old.pots queue.new.pots) }
+    ensures offers { IfOk result (λ _. Offers (λ p. Begins starts.now p) queue.old queue.new) }
 {
     for number in 0..starts.len() {
         begin_at(arena, queue, starts[number])?;
@@ -57,7 +65,7 @@ fn begin<'m, 'a>(
     Ok(())
 }
 
-/// Settles the pair, if the table has it at no less.
+/// Settles the pair, unless it was offered at less.
 fn turn<'m, 'a>(
     setting: Setting<'m, 'a>,
     table: &mut Table<'m, 'a>,
@@ -70,9 +78,9 @@ fn turn<'m, 'a>(
     requires kept { IsKept queue.old.task next }
     ensures table_task { table.new.task ≡ table.old.task }
     ensures queue_task { queue.new.task ≡ queue.old.task }
-    ensures turns { IfOk result (λ _. Turns setting.entry.machine.now.steps table.old.pots queue.old.pots (pot_of next.entry) table.new.pots queue.new.pots) }
+    ensures turns { IfOk result (λ _. Turns setting.entry.machine.now.steps table.old.pots queue.old (pot_of next.entry) table.new.pots queue.new) }
 {
-    if table.covers(next.pot()) {
+    if queue.beats(next.pot()) {
         return Ok(());
     }
     table.put(next)?;
@@ -123,6 +131,6 @@ pub fn search<'a>(
     ensures { IfOk result (λ s. IsSettledOf machine.now starts.now s) }
 {
     let table = search_table(alloc, machine, index, starts, arena)?;
-    let settled = gather(alloc, &table)?;
+    let settled = gather(alloc, table)?;
     Ok(settled)
 }

@@ -43,7 +43,7 @@ fn offer_flat<'m, 'a>(
     requires kept { IsKept queue.old.task prev }
     requires flat { IsStepOf setting.machine.now.steps (IsFlatFrom prev.state) number }
     ensures task { queue.new.task ≡ queue.old.task }
-    ensures offers { IfOk result (λ _. Offers table.now.pots (FlatBy setting.entry.machine.now.steps (pot_of prev.entry) number) queue.old.pots queue.new.pots) }
+    ensures offers { IfOk result (λ _. Offers (FlatBy setting.entry.machine.now.steps (pot_of prev.entry) number) queue.old queue.new) }
 {
     let step = setting.machine.step(number);
     let pot = Pot {
@@ -51,7 +51,7 @@ fn offer_flat<'m, 'a>(
         state: step.to,
         weight: stepped(prev.weight, step),
     };
-    if table.covers(pot) {
+    if queue.covers(pot) {
         return Ok(());
     }
     let deriv = flat(setting.arena, setting.machine, prev.deriv, number)?;
@@ -80,7 +80,7 @@ fn offer_nest<'m, 'a>(
     requires inner { IsKept queue.old.task inner }
     requires meets { Meets setting.machine.now.steps (pot_of prev) push (pot_of inner) pop }
     ensures task { queue.new.task ≡ queue.old.task }
-    ensures offers { IfOk result (λ _. Offers table.now.pots (NestedBy setting.entry.machine.now.steps (pot_of prev.entry) push (pot_of inner.entry) pop) queue.old.pots queue.new.pots) }
+    ensures offers { IfOk result (λ _. Offers (NestedBy setting.entry.machine.now.steps (pot_of prev.entry) push (pot_of inner.entry) pop) queue.old queue.new) }
 {
     let pushed = setting.machine.step(push);
     let popped = setting.machine.step(pop);
@@ -90,7 +90,7 @@ fn offer_nest<'m, 'a>(
         state: popped.to,
         weight: stepped(base, popped),
     };
-    if table.covers(pot) {
+    if queue.covers(pot) {
         return Ok(());
     }
     let deriv = nest(
@@ -123,7 +123,7 @@ fn open<'m, 'a>(
     requires kept { IsKept queue.old.task prev }
     requires push { IsStepOf setting.machine.now.steps (IsPushFrom prev.state) number }
     ensures task { queue.new.task ≡ queue.old.task }
-    ensures offers { IfOk result (λ _. Offers table.now.pots (OpenedBy setting.entry.machine.now.steps (pot_of prev.entry) number) queue.old.pots queue.new.pots) }
+    ensures offers { IfOk result (λ _. Offers (OpenedBy setting.entry.machine.now.steps (pot_of prev.entry) number) queue.old queue.new) }
 {
     let step = setting.machine.step(number);
     let pot = Pot {
@@ -131,7 +131,7 @@ fn open<'m, 'a>(
         state: step.to,
         weight: Weight::zero(),
     };
-    if table.covers(pot) {
+    if queue.covers(pot) {
         return Ok(());
     }
     let deriv = root(setting.arena, step.to)?;
@@ -156,7 +156,7 @@ fn flats<'m, 'a>(
     requires index { IsIndexOf setting.machine.now setting.index.now }
     requires kept { IsKept queue.old.task prev }
     ensures task { queue.new.task ≡ queue.old.task }
-    ensures offers { IfOk result (λ _. Offers table.now.pots (λ p. SomeStep (λ k p. FlatBy setting.entry.machine.now.steps (pot_of prev.entry) k p) p) queue.old.pots queue.new.pots) }
+    ensures offers { IfOk result (λ _. Offers (λ p. SomeStep (λ k p. FlatBy setting.entry.machine.now.steps (pot_of prev.entry) k p) p) queue.old queue.new) }
 {
     let numbers = setting.index.flats(prev.state);
     for number in 0..numbers.len() {
@@ -181,7 +181,7 @@ fn close<'m, 'a>(
     requires inner { IsKept queue.old.task inner }
     requires enters { Enters setting.machine.now.steps (pot_of prev) push (pot_of inner) }
     ensures task { queue.new.task ≡ queue.old.task }
-    ensures offers { IfOk result (λ _. Offers table.now.pots (λ p. Closes setting.entry.machine.now.steps (pot_of prev.entry) push (pot_of inner.entry) p) queue.old.pots queue.new.pots) }
+    ensures offers { IfOk result (λ _. Offers (λ p. Closes setting.entry.machine.now.steps (pot_of prev.entry) push (pot_of inner.entry) p) queue.old queue.new) }
 {
     let pushed = setting.machine.step(push);
     let pops = setting.index.pops(inner.state, pushed.frame);
@@ -218,7 +218,7 @@ fn nest_at<'m, 'a>(
     requires kept { IsKept queue.old.task prev }
     requires push { IsStepOf setting.machine.now.steps (IsPushFrom prev.state) number }
     ensures task { queue.new.task ≡ queue.old.task }
-    ensures offers { IfOk result (λ _. Offers table.now.pots (AtPlace table.now.pots (λ inner p. Closes setting.entry.machine.now.steps (pot_of prev.entry) number inner p) place) queue.old.pots queue.new.pots) }
+    ensures offers { IfOk result (λ _. Offers (AtPlace table.now.pots (λ inner p. Closes setting.entry.machine.now.steps (pot_of prev.entry) number inner p) place) queue.old queue.new) }
 {
     let pushed = setting.machine.step(number);
     let Some(inner) = table.item(place) else {
@@ -245,7 +245,7 @@ fn nests<'m, 'a>(
     requires kept { IsKept queue.old.task prev }
     requires push { IsStepOf setting.machine.now.steps (IsPushFrom prev.state) number }
     ensures task { queue.new.task ≡ queue.old.task }
-    ensures offers { IfOk result (λ _. Offers table.now.pots (λ p. SomePot table.now.pots (λ inner p. Closes setting.entry.machine.now.steps (pot_of prev.entry) number inner p) p) queue.old.pots queue.new.pots) }
+    ensures offers { IfOk result (λ _. Offers (λ p. SomePot table.now.pots (λ inner p. Closes setting.entry.machine.now.steps (pot_of prev.entry) number inner p) p) queue.old queue.new) }
 {
     let pushed = setting.machine.step(number);
     let places = table.under(pushed.to);
@@ -269,7 +269,7 @@ fn push_by<'m, 'a>(
     requires kept { IsKept queue.old.task prev }
     requires push { IsStepOf setting.machine.now.steps (IsPushFrom prev.state) number }
     ensures task { queue.new.task ≡ queue.old.task }
-    ensures offers { IfOk result (λ _. Offers table.now.pots (PushedBy setting.entry.machine.now.steps table.now.pots (pot_of prev.entry) number) queue.old.pots queue.new.pots) }
+    ensures offers { IfOk result (λ _. Offers (PushedBy setting.entry.machine.now.steps table.now.pots (pot_of prev.entry) number) queue.old queue.new) }
 {
     open(setting, table, queue, prev, number)?;
     nests(setting, table, queue, prev, number)?;
@@ -288,7 +288,7 @@ fn pushes<'m, 'a>(
     requires index { IsIndexOf setting.machine.now setting.index.now }
     requires kept { IsKept queue.old.task prev }
     ensures task { queue.new.task ≡ queue.old.task }
-    ensures offers { IfOk result (λ _. Offers table.now.pots (λ p. SomeStep (λ k p. PushedBy setting.entry.machine.now.steps table.now.pots (pot_of prev.entry) k p) p) queue.old.pots queue.new.pots) }
+    ensures offers { IfOk result (λ _. Offers (λ p. SomeStep (λ k p. PushedBy setting.entry.machine.now.steps table.now.pots (pot_of prev.entry) k p) p) queue.old queue.new) }
 {
     let numbers = setting.index.pushes(prev.state);
     for number in 0..numbers.len() {
@@ -312,7 +312,7 @@ fn fill_at<'m, 'a>(
     requires inner { IsKept queue.old.task inner }
     requires into { (t : MachineStep) × (slice_get setting.machine.now.steps number.0 ≡ Some t) × (t.kind ≡ Push) × (inner.root ≡ Entry t.to) }
     ensures task { queue.new.task ≡ queue.old.task }
-    ensures offers { IfOk result (λ _. Offers table.now.pots (AtPlace table.now.pots (λ prev p. Closes setting.entry.machine.now.steps prev number (pot_of inner.entry) p) place) queue.old.pots queue.new.pots) }
+    ensures offers { IfOk result (λ _. Offers (AtPlace table.now.pots (λ prev p. Closes setting.entry.machine.now.steps prev number (pot_of inner.entry) p) place) queue.old queue.new) }
 {
     let pushed = setting.machine.step(number);
     let Some(prev) = table.item(place) else {
@@ -339,7 +339,7 @@ fn fill_by<'m, 'a>(
     requires inner { IsKept queue.old.task inner }
     requires into { (t : MachineStep) × (slice_get setting.machine.now.steps number.0 ≡ Some t) × (t.kind ≡ Push) × (inner.root ≡ Entry t.to) }
     ensures task { queue.new.task ≡ queue.old.task }
-    ensures offers { IfOk result (λ _. Offers table.now.pots (λ p. SomePot table.now.pots (λ prev p. Closes setting.entry.machine.now.steps prev number (pot_of inner.entry) p) p) queue.old.pots queue.new.pots) }
+    ensures offers { IfOk result (λ _. Offers (λ p. SomePot table.now.pots (λ prev p. Closes setting.entry.machine.now.steps prev number (pot_of inner.entry) p) p) queue.old queue.new) }
 {
     let pushed = setting.machine.step(number);
     let places = table.at(pushed.from);
@@ -370,7 +370,7 @@ fn fill_under<'m, 'a>(
     requires inner { IsKept queue.old.task inner }
     requires root { inner.root ≡ Entry entry }
     ensures task { queue.new.task ≡ queue.old.task }
-    ensures offers { IfOk result (λ _. Offers table.now.pots (λ p. Fills setting.entry.machine.now.steps table.now.pots (pot_of inner.entry) p) queue.old.pots queue.new.pots) }
+    ensures offers { IfOk result (λ _. Offers (λ p. Fills setting.entry.machine.now.steps table.now.pots (pot_of inner.entry) p) queue.old queue.new) }
 {
     let numbers = setting.index.pushes_into(entry);
     for number in 0..numbers.len() {
@@ -391,7 +391,7 @@ fn fill<'m, 'a>(
     requires index { IsIndexOf setting.machine.now setting.index.now }
     requires inner { IsKept queue.old.task inner }
     ensures task { queue.new.task ≡ queue.old.task }
-    ensures offers { IfOk result (λ _. Offers table.now.pots (λ p. Fills setting.entry.machine.now.steps table.now.pots (pot_of inner.entry) p) queue.old.pots queue.new.pots) }
+    ensures offers { IfOk result (λ _. Offers (λ p. Fills setting.entry.machine.now.steps table.now.pots (pot_of inner.entry) p) queue.old queue.new) }
 {
     let Root::Entry(entry) = inner.root else {
         return Ok(());
@@ -412,7 +412,7 @@ pub fn settle<'m, 'a>(
     requires index { IsIndexOf setting.machine.now setting.index.now }
     requires kept { IsKept queue.old.task next }
     ensures task { queue.new.task ≡ queue.old.task }
-    ensures offers { IfOk result (λ _. Offers table.now.pots (λ p. Extends setting.entry.machine.now.steps table.now.pots (pot_of next.entry) p ⊎ Fills setting.entry.machine.now.steps table.now.pots (pot_of next.entry) p) queue.old.pots queue.new.pots) }
+    ensures offers { IfOk result (λ _. Offers (λ p. Extends setting.entry.machine.now.steps table.now.pots (pot_of next.entry) p ⊎ Fills setting.entry.machine.now.steps table.now.pots (pot_of next.entry) p) queue.old queue.new) }
 {
     flats(setting, table, queue, next)?;
     pushes(setting, table, queue, next)?;

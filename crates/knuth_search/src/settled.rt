@@ -1,15 +1,18 @@
-ghost use Rattle.std.specs.Prelude.{◌≡◌, ◌∷◌, ◌++◌, [], List, IfOk, IfSome, IfNone};
+ghost use Rattle.std.specs.Prelude.{◌≡◌, ◌↔◌, ◌<◌, ◌∷◌, ◌++◌, [], List, IsTrue, IfOk, IfSome, IfNone, length, slice_get, Some};
 ghost use Rattle.std.specs.List.{Contains};
+ghost use Rattle.std.specs.List.Sorted.{IsPermutation};
 ghost use Rattle.ml_base.specs.declared.numbers.StateNo.{StateNo};
 ghost use Rattle.ml_base.specs.declared.numbers.Root.TheVariants.{Request};
 ghost use Rattle.adapt_machine.specs.Machine.{MachineValue};
-ghost use Rattle.segment_grammar.specs.Pots.{IsAboveLast};
+ghost use Rattle.segment_grammar.specs.Pots.{IsAboveLast, IsOfPair};
 ghost use Rattle.segment_grammar.specs.Reached.{IsReached};
 ghost use Rattle.knuth_search.specs.Settled.{potentials_of, derivs_of, ArePotentials, IsCheapest, IsSettledOf, IsBest, IsLightestOf};
-ghost use Rattle.knuth_search.specs.Gathered.{Appends, Lists, IsGathered};
+ghost use Rattle.knuth_search.specs.declared.derived.Derived.{Derived};
+ghost use Rattle.knuth_search.specs.Tables.{pot_of};
+ghost use Rattle.knuth_search.specs.Gathered.{AreInOrder, Repeats, Appends, Lists, IsGathered};
 
 use crate::derived::Derived;
-use crate::table::{Table, root_at};
+use crate::table::Table;
 use deriv_arena::Deriv;
 use ml_base::{NoMemory, Root, StateNo};
 use segment_grammar::{Pot, Potentials};
@@ -43,30 +46,57 @@ fn append<'a>(settled: &mut Settled<'a>, item: Derived<'a>) -> Result<(), NoMemo
     Ok(())
 }
 
-/// Lists what the table has of the pair.
-fn list<'a>(
-    table: &Table<'_, 'a>,
-    settled: &mut Settled<'a>,
-    root: Root,
-    state: StateNo,
-) -> Result<(), NoMemory>
-    requires { IsAboveLast (potentials_of settled.old) root state }
-    ensures { IfOk result (λ _. Lists table.now.task table.now.pots settled.old root state settled.new) }
+fn is_of_pair(item: Derived<'_>, other: Derived<'_>) -> bool
+    ensures { IsTrue result ↔ IsOfPair (pot_of item.entry) other.entry.root other.entry.state }
 {
-    let Some(item) = table.least(root, state) else {
+    item.root == other.root && item.state == other.state
+}
+
+/// Whether the item before the place is of the same pair.
+fn repeats(items: &[Derived<'_>], place: usize) -> bool
+    requires { place < length items.now }
+    ensures { IsTrue result ↔ Repeats items.now place }
+{
+    if place == 0 {
+        return false;
+    }
+    is_of_pair(items[place - 1], items[place])
+}
+
+/// Lists the item at the place, unless it is of the pair before.
+fn list_at<'a>(
+    settled: &mut Settled<'a>,
+    items: &[Derived<'a>],
+    place: usize,
+) -> Result<(), NoMemory>
+    requires within { place < length items.now }
+    requires above { (d : Derived) → slice_get items.now place ≡ Some d → (Repeats items.now place → ⊥) → IsAboveLast (potentials_of settled.old) d.root d.state }
+    ensures { IfOk result (λ _. Lists items.now place settled.old settled.new) }
+{
+    if repeats(items, place) {
         return Ok(());
-    };
-    append(settled, item)?;
+    }
+    append(settled, items[place])?;
     Ok(())
 }
 
-/// The pairs of the table in the order of root and state, each with its least weight.
-pub fn gather<'a>(alloc: Global, table: &Table<'_, 'a>) -> Result<Settled<'a>, NoMemory>
-    ensures { IfOk result (λ s. IsGathered table.now.task table.now.pots (potentials_of s) (derivs_of s)) }
+/// The items in the order of root and state, the lightest of a pair first.
+fn in_order<'a>(mut items: Vec<Derived<'a>>) -> Vec<Derived<'a>>
+    ensures order { AreInOrder result.items }
+    ensures same { IsPermutation items.entry.items result.items }
 {
+    items.sort_unstable_by_key(|item| (item.root, item.state, item.weight));
+    items
+}
+
+/// The pairs of the table in the order of root and state, each with its least weight.
+pub fn gather<'a>(alloc: Global, table: Table<'_, 'a>) -> Result<Settled<'a>, NoMemory>
+    ensures { IfOk result (λ s. IsGathered table.entry.task table.entry.pots (potentials_of s) (derivs_of s)) }
+{
+    let items = in_order(table.into_items());
     let mut settled = empty(alloc);
-    for key in table.keys() {
-        list(table, &mut settled, root_at(key.0), StateNo(key.1))?;
+    for place in 0..items.len() {
+        list_at(&mut settled, items.as_slice(), place)?;
     }
     Ok(settled)
 }

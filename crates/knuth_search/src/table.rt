@@ -1,27 +1,19 @@
-ghost use Rattle.std.specs.Prelude.{◌≡◌, ◌↔◌, ℕ, ◌<◌, ◌∷◌, ◌++◌, [], IsTrue, false, true, IfOk, IfSome, IfNone, length, slice_get, Option, Some, None};
-ghost use Rattle.std.specs.List.{Contains};
-ghost use Rattle.ml_base.specs.Weight.{IsCappedAtMost};
+ghost use Rattle.std.specs.Prelude.{◌≡◌, ◌<◌, ◌∷◌, ◌++◌, [], IfOk, IfSome, IfNone, length, map, slice_get, Some, None};
+ghost use Rattle.std.specs.List.{All, Contains};
 ghost use Rattle.ml_base.specs.declared.numbers.StateNo.{StateNo};
 ghost use Rattle.ml_base.specs.declared.numbers.Root.TheVariants.{Entry};
-ghost use Rattle.segment_grammar.specs.declared.potentials.Pot.{Pot};
-ghost use Rattle.segment_grammar.specs.Pots.{IsOfPair};
 ghost use Rattle.segment_grammar.specs.Rows.{row_of};
 ghost use Rattle.knuth_search.specs.Derived.{IsRootWithin};
-ghost use Rattle.knuth_search.specs.Following.{IsCovered};
-ghost use Rattle.knuth_search.specs.Gathered.{AreKeysOf};
-ghost use Rattle.knuth_search.specs.Tables.{pot_of, IsKept, root_key, ListsPlaces, KeepsRows};
+ghost use Rattle.knuth_search.specs.Tables.{pot_of, IsKept, ListsPlaces, KeepsRows};
 
 use crate::derived::Derived;
 use adapt_machine::Machine;
 use ml_base::{NoMemory, Root, StateNo};
-use segment_grammar::{Pot, Rows};
+use segment_grammar::Rows;
 use std::alloc::Global;
-use std::collections::BTreeMap;
-use std::collections::btree_map::Keys;
 use std::marker::Model;
 
-/// The settled pairs with their weights and derivations, each in one place. A pair is found by a map, and the places of the
-/// pairs under an entered state or at a state stand in rows.
+/// The settled pairs with their weights and derivations. The places of those under an entered state or at a state stand in rows.
 #[derive(Drop)]
 pub struct Table<'m, 'a> {
     machine: &'m Machine,
@@ -29,7 +21,6 @@ pub struct Table<'m, 'a> {
     items: Vec<Derived<'a>>,
     by_root: Rows<u64>,
     by_state: Rows<u64>,
-    places: BTreeMap<(Option<u64>, u64), u64>,
 }
 
 impl<'m, 'a> Model for Table<'m, 'a> {
@@ -40,27 +31,7 @@ impl<'m, 'a> Model for Table<'m, 'a> {
 
     ghost view = { λ t. record { task = record { machine = t.machine.now; starts = t.starts.now }; pots = map pot_of t.items.items } };
 
-    ghost invariant = { λ t. AreStored (record { machine = t.machine.now; starts = t.starts.now }) t.items.items t.by_root t.by_state t.places.entries };
-}
-
-/// The request comes first, then the entered states.
-fn root_key(root: Root) -> Option<u64>
-    ensures { result ≡ root_key root }
-{
-    match root {
-        Root::Request => None,
-        Root::Entry(entry) => Some(entry.0),
-    }
-}
-
-/// The root of a key.
-pub fn root_at(key: Option<u64>) -> Root
-    ensures { root_key result ≡ key }
-{
-    match key {
-        None => Root::Request,
-        Some(entry) => Root::Entry(StateNo(entry)),
-    }
+    ghost invariant = { λ t. AreStored (record { machine = t.machine.now; starts = t.starts.now }) t.items.items t.by_root t.by_state };
 }
 
 /// Files a place in a row.
@@ -86,12 +57,6 @@ fn file_root(rows: &mut Rows<u64>, root: Root, place: u64) -> Result<(), NoMemor
     Ok(())
 }
 
-fn is_of_pair(item: Derived<'_>, root: Root, state: StateNo) -> bool
-    ensures { IsTrue result ↔ IsOfPair (pot_of item.entry) root state }
-{
-    item.root == root && item.state == state
-}
-
 impl<'m, 'a> Table<'m, 'a> {
     /// A table without pairs.
     pub fn new(
@@ -110,7 +75,6 @@ impl<'m, 'a> Table<'m, 'a> {
             items: Vec::new(alloc),
             by_root,
             by_state,
-            places: BTreeMap::new(alloc),
         })
     }
 
@@ -124,13 +88,6 @@ impl<'m, 'a> Table<'m, 'a> {
             return None;
         };
         Some(*item)
-    }
-
-    /// The keys of the pairs, rising.
-    pub fn keys(&self) -> Keys<'_, (Option<u64>, u64), u64>
-        ensures { AreKeysOf self.now.pots result }
-    {
-        self.places.keys()
     }
 
     /// The places of the pairs under an entered state.
@@ -149,40 +106,17 @@ impl<'m, 'a> Table<'m, 'a> {
         self.by_state.row(state.0)
     }
 
-    /// The least item of the pair, or None exactly where the pair is not listed.
-    pub fn least(&self, root: Root, state: StateNo) -> Option<Derived<'a>>
-        ensures some { IfSome result (λ d. IsOfPair (pot_of d) root state × Contains self.now.pots (pot_of d)) }
-        ensures kept { IfSome result (λ d. IsKept self.now.task d) }
-        ensures least { IfSome result (λ d. (p : Pot) → Contains self.now.pots p → IsOfPair p root state → IsCappedAtMost d.weight p.weight) }
-        ensures none { IfNone result ((p : Pot) → Contains self.now.pots p → IsOfPair p root state → ⊥) }
+    /// The pairs in the order in which they were settled.
+    pub fn into_items(self) -> Vec<Derived<'a>>
+        ensures pots { map pot_of result.items ≡ self.entry.pots }
+        ensures kept { All (IsKept self.entry.task) result.items }
     {
-        let Some(place) = self.places.get(&(root_key(root), state.0)) else {
-            return None;
-        };
-        let Some(item) = self.item(*place) else {
-            return None;
-        };
-        if !is_of_pair(item, root, state) {
-            return None;
-        }
-        Some(item)
+        self.items
     }
 
-    /// Whether the pair is listed at no more than this weight.
-    pub fn covers(&self, pot: Pot) -> bool
-        ensures yes { IsTrue result → IsCovered self.now.pots pot }
-        ensures no { result ≡ false → (p : Pot) → Contains self.now.pots p → IsOfPair p pot.root pot.state → IsCappedAtMost pot.weight p.weight }
-    {
-        let Some(item) = self.least(pot.root, pot.state) else {
-            return false;
-        };
-        item.weight.is_at_most(pot.weight)
-    }
-
-    /// Puts the pair into the table, in the place of heavier ones.
+    /// Puts the pair into the table, behind the others.
     pub fn put(&mut self, next: Derived<'a>) -> Result<(), NoMemory>
-        requires kept { IsKept self.old.task next }
-        requires lighter { (p : Pot) → Contains self.old.pots p → IsOfPair p next.root next.state → IsCappedAtMost next.weight p.weight }
+        requires { IsKept self.old.task next }
         ensures task { self.new.task ≡ self.old.task }
         ensures pots { IfOk result (λ _. self.new.pots ≡ self.old.pots ++ pot_of next.entry ∷ []) }
     {
@@ -192,15 +126,6 @@ impl<'m, 'a> Table<'m, 'a> {
         if self.items.push(next).is_err() {
             return Err(NoMemory);
         }
-        match self
-            .places
-            .insert((root_key(next.root), next.state.0), place)
-        {
-            Ok(_) => Ok(()),
-            Err(_) => {
-                let _last = self.items.pop();
-                Err(NoMemory)
-            }
-        }
+        Ok(())
     }
 }

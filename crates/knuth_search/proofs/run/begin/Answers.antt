@@ -1,4 +1,4 @@
-use Rattle.std.proofs.Common.{arith, ◌≡◌, ◌∙◌, ◌<◌, subst, sym, []}
+use Rattle.std.proofs.Common.{arith, ◌≡◌, ◌∙◌, ◌<◌, subst, sym}
 use Rattle.std.proofs.Math.ListN.{get_or}
 use Rattle.std.proofs.lemmas.Option.{slice_get-get_or}
 use Rattle.ml_base.specs.declared.numbers.StateNo.{StateNo}
@@ -18,10 +18,10 @@ begin_at-requires-clause-within c =
 
 pub loop-number-preserved : goal.loop-number-preserved
 loop-number-preserved c = record {
-  offers = offers_more [] (λ a p. p ≡ pot Request a zero) c.args.starts.now c.loop-number.number (get_or c.args.starts.now c.loop-number.number (record { 0 = 0 }))
+  offers = offers_more (λ a p. p ≡ pot Request a zero) c.args.starts.now c.loop-number.number (get_or c.args.starts.now c.loop-number.number (record { 0 = 0 }))
       (slice_get-get_or c.args.starts.now c.loop-number.number (record { 0 = 0 }) c.loop-number-test.true) _ _ _ c.loop-number.invariant.offers c.in_ok-begin_at.ensures.offers;
   task = c.begin_at.ensures.task ∙ c.loop-number.invariant.task;
 }
 
 pub returns-clause-offers : goal.returns-clause-offers
-returns-clause-offers c = offers_listed [] (λ a p. p ≡ pot Request a zero) c.args.starts.now (λ p. Begins c.args.starts.now p) c.loop-number.number (omega arith) (λ p b. b) _ _ c.loop-number.invariant.offers
+returns-clause-offers c = offers_listed (λ a p. p ≡ pot Request a zero) c.args.starts.now (λ p. Begins c.args.starts.now p) c.loop-number.number (omega arith) (λ p b. b) _ _ c.loop-number.invariant.offers

@@ -1,19 +1,18 @@
 use Rattle.std.proofs.Common.{◌∙◌, ◌<◌, subst, sym}
 use Rattle.knuth_search.specs.Tables.{pot_of}
-use Rattle.knuth_search.proofs.Turning.{IsSearching, searching_turn, is_complete}
+use Rattle.knuth_search.proofs.Turning.{searching_turn, is_complete}
 use Rattle.knuth_search.proofs.run.search_table.Goals as goal
 
 pub begin-requires-clause-within : goal.begin-requires-clause-within
 begin-requires-clause-within c a listed = subst (λ t. a.0 < t.machine.states) (sym c.new-queue.ensures.task) (c.requires.starts a listed)
 
-pub returns-in_default-clause-complete : goal.returns-in_default-clause-complete
-returns-in_default-clause-complete c = is_complete c.args.machine.now.steps c.args.starts.now c.loop.table.pots
-    (subst (λ q. IsSearching c.args.machine.now.steps c.args.starts.now c.loop.table.pots q) c.in_default.ensures.none c.loop.invariant.searching)
-
 pub loop-preserved : goal.loop-preserved
 loop-preserved c = record {
-  searching = searching_turn c.args.machine.now.steps c.args.starts.now c.loop.table.pots c.loop.queue.pots c.pop.new.self.pots (pot_of c.in-Some.next) c.turn.new.table.pots c.turn.new.queue.pots
-      c.in-Some.ensures.some c.in_ok-turn.ensures.turns c.loop.invariant.searching;
+  searching = searching_turn c.args.machine.now.steps c.args.starts.now c.loop.table.pots c.loop.queue c.pop.new.self (pot_of c.in-Some.next) c.in-Some.ensures.some c.pop.ensures.offered c.loop.invariant.searching
+      c.turn.new.table.pots c.turn.new.queue c.in_ok-turn.ensures.turns;
   table = c.turn.ensures.table_task ∙ c.loop.invariant.table;
   queue = c.turn.ensures.queue_task ∙ c.pop.ensures.task ∙ c.loop.invariant.queue;
 }
+
+pub returns-in_default-clause-complete : goal.returns-in_default-clause-complete
+returns-in_default-clause-complete c = is_complete c.args.machine.now.steps c.args.starts.now c.loop.table.pots c.loop.queue c.in_default.ensures.none c.loop.invariant.searching

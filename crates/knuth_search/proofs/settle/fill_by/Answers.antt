@@ -8,10 +8,10 @@ use Rattle.knuth_search.proofs.settle.fill_by.Goals as goal
 
 pub loop-number_of_place-preserved : goal.loop-number_of_place-preserved
 loop-number_of_place-preserved c = record {
-  offers = offers_more c.args.table.now.pots (λ i p. AtPlace c.args.table.now.pots (λ prev p. Closes c.args.setting.machine.now.steps prev c.args.number (pot_of c.args.inner) p) i p) c.at-places.result.now c.loop-number_of_place.number_of_place (get_or c.at-places.result.now c.loop-number_of_place.number_of_place 0) (slice_get-get_or c.at-places.result.now c.loop-number_of_place.number_of_place 0 c.loop-number_of_place-test.true) _ _ _ c.loop-number_of_place.invariant.offers c.in_ok-fill_at.ensures.offers;
+  offers = offers_more (λ i p. AtPlace c.args.table.now.pots (λ prev p. Closes c.args.setting.machine.now.steps prev c.args.number (pot_of c.args.inner) p) i p) c.at-places.result.now c.loop-number_of_place.number_of_place (get_or c.at-places.result.now c.loop-number_of_place.number_of_place 0) (slice_get-get_or c.at-places.result.now c.loop-number_of_place.number_of_place 0 c.loop-number_of_place-test.true) _ _ _ c.loop-number_of_place.invariant.offers c.in_ok-fill_at.ensures.offers;
   task = c.fill_at.ensures.task ∙ c.loop-number_of_place.invariant.task;
 }
 
 pub returns-clause-offers : goal.returns-clause-offers
-returns-clause-offers c = offers_listed c.args.table.now.pots (λ i p. AtPlace c.args.table.now.pots (λ prev p. Closes c.args.setting.machine.now.steps prev c.args.number (pot_of c.args.inner) p) i p) c.at-places.result.now (λ p. SomePot c.args.table.now.pots (λ prev p. Closes c.args.setting.machine.now.steps prev c.args.number (pot_of c.args.inner) p) p) c.loop-number_of_place.number_of_place (omega arith)
+returns-clause-offers c = offers_listed (λ i p. AtPlace c.args.table.now.pots (λ prev p. Closes c.args.setting.machine.now.steps prev c.args.number (pot_of c.args.inner) p) i p) c.at-places.result.now (λ p. SomePot c.args.table.now.pots (λ prev p. Closes c.args.setting.machine.now.steps prev c.args.number (pot_of c.args.inner) p) p) c.loop-number_of_place.number_of_place (omega arith)
     (λ p s. places_listed c.args.table.now.pots (λ prev p. Closes c.args.setting.machine.now.steps prev c.args.number (pot_of c.args.inner) p) (λ q. q.state ≡ c.step-pushed.result.from) c.at-places.result.now c.at-places.ensures (λ item q g. from_here c.args.setting.machine.now.steps item c.args.number (pot_of c.args.inner) c.step-pushed.result c.step-pushed.ensures.found g.gives.meets.enters) p s) _ _ c.loop-number_of_place.invariant.offers

@@ -12,10 +12,10 @@ fill_by-requires-clause-into c = into_here c.args.setting.machine.now.steps (get
 
 pub loop-number-preserved : goal.loop-number-preserved
 loop-number-preserved c = record {
-  offers = offers_more c.args.table.now.pots (λ k p. SomePot c.args.table.now.pots (λ prev p. Closes c.args.setting.machine.now.steps prev k (pot_of c.args.inner) p) p) c.pushes_into-numbers.result.now c.loop-number.number (get_or c.pushes_into-numbers.result.now c.loop-number.number (step_no 0)) (slice_get-get_or c.pushes_into-numbers.result.now c.loop-number.number (step_no 0) c.loop-number-test.true) _ _ _ c.loop-number.invariant.offers c.in_ok-fill_by.ensures.offers;
+  offers = offers_more (λ k p. SomePot c.args.table.now.pots (λ prev p. Closes c.args.setting.machine.now.steps prev k (pot_of c.args.inner) p) p) c.pushes_into-numbers.result.now c.loop-number.number (get_or c.pushes_into-numbers.result.now c.loop-number.number (step_no 0)) (slice_get-get_or c.pushes_into-numbers.result.now c.loop-number.number (step_no 0) c.loop-number-test.true) _ _ _ c.loop-number.invariant.offers c.in_ok-fill_by.ensures.offers;
   task = c.fill_by.ensures.task ∙ c.loop-number.invariant.task;
 }
 
 pub returns-clause-offers : goal.returns-clause-offers
-returns-clause-offers c = offers_listed c.args.table.now.pots (λ k p. SomePot c.args.table.now.pots (λ prev p. Closes c.args.setting.machine.now.steps prev k (pot_of c.args.inner) p) p) c.pushes_into-numbers.result.now (λ p. Fills c.args.setting.machine.now.steps c.args.table.now.pots (pot_of c.args.inner) p) c.loop-number.number (omega arith)
+returns-clause-offers c = offers_listed (λ k p. SomePot c.args.table.now.pots (λ prev p. Closes c.args.setting.machine.now.steps prev k (pot_of c.args.inner) p) p) c.pushes_into-numbers.result.now (λ p. Fills c.args.setting.machine.now.steps c.args.table.now.pots (pot_of c.args.inner) p) c.loop-number.number (omega arith)
     (λ p s. fills_listed c.args.setting.machine.now.steps c.args.table.now.pots (pot_of c.args.inner) c.args.entry c.requires.root c.pushes_into-numbers.result.now (c.pushes_into-numbers.ensures c.args.setting.machine.now c.requires.index) p s) _ _ c.loop-number.invariant.offers

@@ -12,10 +12,10 @@ offer_flat-requires-clause-flat c = listed_step c.args.setting.machine.now.steps
 
 pub loop-number-preserved : goal.loop-number-preserved
 loop-number-preserved c = record {
-  offers = offers_more c.args.table.now.pots (λ k p. FlatBy c.args.setting.machine.now.steps (pot_of c.args.prev) k p) c.flats-numbers.result.now c.loop-number.number (get_or c.flats-numbers.result.now c.loop-number.number (step_no 0)) (slice_get-get_or c.flats-numbers.result.now c.loop-number.number (step_no 0) c.loop-number-test.true) _ _ _ c.loop-number.invariant.offers c.in_ok-offer_flat.ensures.offers;
+  offers = offers_more (λ k p. FlatBy c.args.setting.machine.now.steps (pot_of c.args.prev) k p) c.flats-numbers.result.now c.loop-number.number (get_or c.flats-numbers.result.now c.loop-number.number (step_no 0)) (slice_get-get_or c.flats-numbers.result.now c.loop-number.number (step_no 0) c.loop-number-test.true) _ _ _ c.loop-number.invariant.offers c.in_ok-offer_flat.ensures.offers;
   task = c.offer_flat.ensures.task ∙ c.loop-number.invariant.task;
 }
 
 pub returns-clause-offers : goal.returns-clause-offers
-returns-clause-offers c = offers_listed c.args.table.now.pots (λ k p. FlatBy c.args.setting.machine.now.steps (pot_of c.args.prev) k p) c.flats-numbers.result.now (λ p. SomeStep (λ k p. FlatBy c.args.setting.machine.now.steps (pot_of c.args.prev) k p) p) c.loop-number.number (omega arith)
+returns-clause-offers c = offers_listed (λ k p. FlatBy c.args.setting.machine.now.steps (pot_of c.args.prev) k p) c.flats-numbers.result.now (λ p. SomeStep (λ k p. FlatBy c.args.setting.machine.now.steps (pot_of c.args.prev) k p) p) c.loop-number.number (omega arith)
     (λ p s. (s.number, step_listed c.args.setting.machine.now.steps (IsFlatFrom c.args.prev.state) c.flats-numbers.result.now (c.flats-numbers.ensures c.args.setting.machine.now c.requires.index) s.number s.gives.step, s.gives)) _ _ c.loop-number.invariant.offers

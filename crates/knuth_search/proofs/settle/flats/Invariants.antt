@@ -4,4 +4,4 @@ use Rattle.knuth_search.specs.Tables.{pot_of}
 use Rattle.knuth_search.proofs.settle.flats.Given as goal
 
 abbrev pub invariant-loop-number : goal.invariant-loop-number
-invariant-loop-number l = record { offers : Offers l.table.pots (Among (λ k p. FlatBy l.setting.machine.now.steps (pot_of l.prev) k p) l.numbers l.number) l.fn.queue.pots l.queue.pots; task : l.queue.task ≡ l.fn.queue.task }
+invariant-loop-number l = record { offers : Offers (Among (λ k p. FlatBy l.setting.machine.now.steps (pot_of l.prev) k p) l.numbers l.number) l.fn.queue l.queue; task : l.queue.task ≡ l.fn.queue.task }

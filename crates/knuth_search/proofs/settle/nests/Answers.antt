@@ -9,10 +9,10 @@ use Rattle.knuth_search.proofs.settle.nests.Goals as goal
 
 pub loop-number_of_place-preserved : goal.loop-number_of_place-preserved
 loop-number_of_place-preserved c = record {
-  offers = offers_more c.args.table.now.pots (λ i p. AtPlace c.args.table.now.pots (λ inner p. Closes c.args.setting.machine.now.steps (pot_of c.args.prev) c.args.number inner p) i p) c.under-places.result.now c.loop-number_of_place.number_of_place (get_or c.under-places.result.now c.loop-number_of_place.number_of_place 0) (slice_get-get_or c.under-places.result.now c.loop-number_of_place.number_of_place 0 c.loop-number_of_place-test.true) _ _ _ c.loop-number_of_place.invariant.offers c.in_ok-nest_at.ensures.offers;
+  offers = offers_more (λ i p. AtPlace c.args.table.now.pots (λ inner p. Closes c.args.setting.machine.now.steps (pot_of c.args.prev) c.args.number inner p) i p) c.under-places.result.now c.loop-number_of_place.number_of_place (get_or c.under-places.result.now c.loop-number_of_place.number_of_place 0) (slice_get-get_or c.under-places.result.now c.loop-number_of_place.number_of_place 0 c.loop-number_of_place-test.true) _ _ _ c.loop-number_of_place.invariant.offers c.in_ok-nest_at.ensures.offers;
   task = c.nest_at.ensures.task ∙ c.loop-number_of_place.invariant.task;
 }
 
 pub returns-clause-offers : goal.returns-clause-offers
-returns-clause-offers c = offers_listed c.args.table.now.pots (λ i p. AtPlace c.args.table.now.pots (λ inner p. Closes c.args.setting.machine.now.steps (pot_of c.args.prev) c.args.number inner p) i p) c.under-places.result.now (λ p. SomePot c.args.table.now.pots (λ inner p. Closes c.args.setting.machine.now.steps (pot_of c.args.prev) c.args.number inner p) p) c.loop-number_of_place.number_of_place (omega arith)
+returns-clause-offers c = offers_listed (λ i p. AtPlace c.args.table.now.pots (λ inner p. Closes c.args.setting.machine.now.steps (pot_of c.args.prev) c.args.number inner p) i p) c.under-places.result.now (λ p. SomePot c.args.table.now.pots (λ inner p. Closes c.args.setting.machine.now.steps (pot_of c.args.prev) c.args.number inner p) p) c.loop-number_of_place.number_of_place (omega arith)
     (λ p s. places_listed c.args.table.now.pots (λ inner p. Closes c.args.setting.machine.now.steps (pot_of c.args.prev) c.args.number inner p) (λ q. q.root ≡ Entry c.step-pushed.result.to) c.under-places.result.now c.under-places.ensures (λ item q g. under_here c.args.setting.machine.now.steps (pot_of c.args.prev) c.args.number item c.step-pushed.result c.step-pushed.ensures.found g.gives.meets.enters) p s) _ _ c.loop-number_of_place.invariant.offers

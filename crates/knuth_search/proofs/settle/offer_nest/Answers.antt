@@ -12,6 +12,6 @@ nest-requires-clause-encloses c = encloses_there c.args.queue.now.task c.args.se
 
 pub returns-clause-offers : goal.returns-clause-offers
 returns-clause-offers c =
-    offers_pushed c.args.table.now.pots (NestedBy c.args.setting.machine.now.steps (pot_of c.args.prev) c.args.push (pot_of c.args.inner) c.args.pop) c.args.queue.now.pots c.push.new.self.pots (pot c.args.prev.root c.step-popped.result.to c.stepped-2.result) c.in_ok-push.ensures.pots
+    offers_pushed (NestedBy c.args.setting.machine.now.steps (pot_of c.args.prev) c.args.push (pot_of c.args.inner) c.args.pop) c.args.queue.now c.push.new.self (pot c.args.prev.root c.step-popped.result.to c.stepped-2.result) c.in_ok-push.ensures.offers
     (nested_is c.args.setting.machine.now.steps (pot_of c.args.prev) c.args.push c.step-pushed.result c.step-pushed.ensures.found (pot_of c.args.inner) c.args.pop c.step-popped.result c.step-popped.ensures.found c.stepped-2.result
     (c.stepped-2.ensures ∙ ap (λ v. stepped v c.step-popped.result) (c.plus-base.ensures ∙ ap (λ v. capped_total v c.args.inner.weight) c.stepped.ensures)))

@@ -12,10 +12,10 @@ push_by-requires-clause-push c = listed_step c.args.setting.machine.now.steps (l
 
 pub loop-number-preserved : goal.loop-number-preserved
 loop-number-preserved c = record {
-  offers = offers_more c.args.table.now.pots (λ k p. PushedBy c.args.setting.machine.now.steps c.args.table.now.pots (pot_of c.args.prev) k p) c.pushes-numbers.result.now c.loop-number.number (get_or c.pushes-numbers.result.now c.loop-number.number (step_no 0)) (slice_get-get_or c.pushes-numbers.result.now c.loop-number.number (step_no 0) c.loop-number-test.true) _ _ _ c.loop-number.invariant.offers c.in_ok-push_by.ensures.offers;
+  offers = offers_more (λ k p. PushedBy c.args.setting.machine.now.steps c.args.table.now.pots (pot_of c.args.prev) k p) c.pushes-numbers.result.now c.loop-number.number (get_or c.pushes-numbers.result.now c.loop-number.number (step_no 0)) (slice_get-get_or c.pushes-numbers.result.now c.loop-number.number (step_no 0) c.loop-number-test.true) _ _ _ c.loop-number.invariant.offers c.in_ok-push_by.ensures.offers;
   task = c.push_by.ensures.task ∙ c.loop-number.invariant.task;
 }
 
 pub returns-clause-offers : goal.returns-clause-offers
-returns-clause-offers c = offers_listed c.args.table.now.pots (λ k p. PushedBy c.args.setting.machine.now.steps c.args.table.now.pots (pot_of c.args.prev) k p) c.pushes-numbers.result.now (λ p. SomeStep (λ k p. PushedBy c.args.setting.machine.now.steps c.args.table.now.pots (pot_of c.args.prev) k p) p) c.loop-number.number (omega arith)
+returns-clause-offers c = offers_listed (λ k p. PushedBy c.args.setting.machine.now.steps c.args.table.now.pots (pot_of c.args.prev) k p) c.pushes-numbers.result.now (λ p. SomeStep (λ k p. PushedBy c.args.setting.machine.now.steps c.args.table.now.pots (pot_of c.args.prev) k p) p) c.loop-number.number (omega arith)
     (λ p s. (s.number, step_listed c.args.setting.machine.now.steps (IsPushFrom c.args.prev.state) c.pushes-numbers.result.now (c.pushes-numbers.ensures c.args.setting.machine.now c.requires.index) s.number (pushed_step c.args.setting.machine.now.steps c.args.table.now.pots (pot_of c.args.prev) s.number p s.gives), s.gives)) _ _ c.loop-number.invariant.offers

@@ -5,6 +5,6 @@ use Rattle.knuth_search.proofs.Offering.{offers_then}
 use Rattle.knuth_search.proofs.settle.settle.Goals as goal
 
 pub returns-clause-offers : goal.returns-clause-offers
-returns-clause-offers c = offers_then c.args.table.now.pots (λ p. Extends c.args.setting.machine.now.steps c.args.table.now.pots (pot_of c.args.next) p) (λ p. Fills c.args.setting.machine.now.steps c.args.table.now.pots (pot_of c.args.next) p) (λ p. Extends c.args.setting.machine.now.steps c.args.table.now.pots (pot_of c.args.next) p ⊎ Fills c.args.setting.machine.now.steps c.args.table.now.pots (pot_of c.args.next) p) _ _ _
-    (offers_then c.args.table.now.pots (λ p. SomeStep (λ k p. FlatBy c.args.setting.machine.now.steps (pot_of c.args.next) k p) p) (λ p. SomeStep (λ k p. PushedBy c.args.setting.machine.now.steps c.args.table.now.pots (pot_of c.args.next) k p) p) (λ p. Extends c.args.setting.machine.now.steps c.args.table.now.pots (pot_of c.args.next) p) _ _ _ c.in_ok-flats.ensures.offers c.in_ok-pushes.ensures.offers (λ p u. u))
+returns-clause-offers c = offers_then (λ p. Extends c.args.setting.machine.now.steps c.args.table.now.pots (pot_of c.args.next) p) (λ p. Fills c.args.setting.machine.now.steps c.args.table.now.pots (pot_of c.args.next) p) (λ p. Extends c.args.setting.machine.now.steps c.args.table.now.pots (pot_of c.args.next) p ⊎ Fills c.args.setting.machine.now.steps c.args.table.now.pots (pot_of c.args.next) p) _ _ _
+    (offers_then (λ p. SomeStep (λ k p. FlatBy c.args.setting.machine.now.steps (pot_of c.args.next) k p) p) (λ p. SomeStep (λ k p. PushedBy c.args.setting.machine.now.steps c.args.table.now.pots (pot_of c.args.next) k p) p) (λ p. Extends c.args.setting.machine.now.steps c.args.table.now.pots (pot_of c.args.next) p) _ _ _ c.in_ok-flats.ensures.offers c.in_ok-pushes.ensures.offers (λ p u. u))
     c.in_ok-fill.ensures.offers (λ p u. u)

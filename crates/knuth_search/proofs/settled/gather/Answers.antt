@@ -1,31 +1,30 @@
-use Rattle.std.proofs.Common.{rules, ◌≡◌, ◌∷◌, [], refl, sym, subst}
-use Rattle.std.specs.Map.Iter.{deref}
-use Rattle.std.proofs.lemmas.Map.Iter.{rest_more, rest_all}
+use Rattle.std.proofs.Common.{◌≡◌, ◌<◌, ℕ, List, length, map, slice_get, Some, Contains, arith, sym, subst}
+use Rattle.std.specs.List.{All}
+use Rattle.std.proofs.lemmas.List.Sorted.{All-permutation}
+use Rattle.segment_grammar.specs.declared.potentials.Pot.{Pot}
+use Rattle.knuth_search.specs.declared.derived.Derived.{Derived}
+use Rattle.knuth_search.specs.Tables.{pot_of, IsKept}
+use Rattle.knuth_search.specs.Gathered.{Repeats, Lists}
 use Rattle.knuth_search.specs.Settled.{potentials_of, derivs_of}
-use Rattle.knuth_search.specs.Gathered.{AreKeysOf}
-use Rattle.knuth_search.proofs.Gathering.{IsGathering, gathering_begun, gathering_ended, gathering_turn, above_last}
+use Rattle.knuth_search.proofs.Gathering.{IsGathering, above_last, gathering_turn, gathering_ended, item_of}
 use Rattle.knuth_search.proofs.settled.gather.Goals as goal
 
-pub loop-key-init : goal.loop-key-init
-loop-key-init c =
-    let from : c.into_iter-key-iterator.result ≡ c.keys-key-items.result = search rules in
-    gathering_begun c.args.table.now.task c.args.table.now.pots c.into_iter-key-iterator.result (potentials_of c.empty-settled.result) (derivs_of c.empty-settled.result)
-    c.empty-settled.ensures.potentials c.empty-settled.ensures.derivs (subst (λ v. AreKeysOf c.args.table.now.pots v) (sym from) c.keys-key-items.ensures)
+pub list_at-requires-clause-above : goal.list_at-requires-clause-above
+list_at-requires-clause-above c d at fresh =
+    let kept : All (IsKept c.args.table.task) c.in_order-items.result.items = All-permutation (IsKept c.args.table.task) c.into_items.result.items c.in_order-items.result.items c.in_order-items.ensures.same c.into_items.ensures.kept in
+    above_last c.args.table.task c.in_order-items.result.items c.in_order-items.ensures.order kept c.loop-place.place (potentials_of c.loop-place.settled) (derivs_of c.loop-place.settled) c.loop-place.invariant d
+    (subst (λ l. slice_get l c.loop-place.place ≡ Some d) c.as_slice.ensures.value at) (subst (λ l. Repeats l c.loop-place.place → ⊥) c.as_slice.ensures.value fresh)
 
-pub list-requires : goal.list-requires
-list-requires c =
-    let left : c.loop-key.key-iterator ≡ c.in-Some.key.now ∷ c.next.new.self = rest_more deref c.loop-key.key-iterator c.next.new.self c.next.result c.in-Some.key c.in-Some.is c.next.ensures.steps in
-    above_last c.args.table.now.task c.args.table.now.pots c.in-Some.key.now.0 c.in-Some.key.now.1 c.next.new.self (potentials_of c.loop-key.settled) (derivs_of c.loop-key.settled)
-    (subst (λ v. IsGathering c.args.table.now.task c.args.table.now.pots v (potentials_of c.loop-key.settled) (derivs_of c.loop-key.settled)) left c.loop-key.invariant)
-    c.root_at.result (record { 0 = c.in-Some.key.now.1 }) c.root_at.ensures refl
-
-pub loop-key-preserved : goal.loop-key-preserved
-loop-key-preserved c =
-    let left : c.loop-key.key-iterator ≡ c.in-Some.key.now ∷ c.next.new.self = rest_more deref c.loop-key.key-iterator c.next.new.self c.next.result c.in-Some.key c.in-Some.is c.next.ensures.steps in
-    gathering_turn c.args.table.now.task c.args.table.now.pots c.in-Some.key.now.0 c.in-Some.key.now.1 c.loop-key.key-iterator c.next.new.self c.loop-key.settled c.list.new.settled left c.loop-key.invariant
-    c.root_at.result (record { 0 = c.in-Some.key.now.1 }) c.root_at.ensures refl c.in_ok-list.ensures
+pub loop-place-preserved : goal.loop-place-preserved
+loop-place-preserved c =
+    let kept : All (IsKept c.args.table.task) c.in_order-items.result.items = All-permutation (IsKept c.args.table.task) c.into_items.result.items c.in_order-items.result.items c.in_order-items.ensures.same c.into_items.ensures.kept in
+    gathering_turn c.args.table.task c.in_order-items.result.items c.in_order-items.ensures.order kept c.loop-place.place c.loop-place.settled c.list_at.new.settled c.loop-place.invariant
+    (subst (λ l. Lists l c.loop-place.place c.loop-place.settled c.list_at.new.settled) c.as_slice.ensures.value c.in_ok-list_at.ensures)
 
 pub returns : goal.returns
 returns c =
-    let left : c.loop-key.key-iterator ≡ [] = rest_all deref c.loop-key.key-iterator c.next.new.self c.next.result c.in-None.is c.next.ensures.steps in
-    gathering_ended c.args.table.now.task c.args.table.now.pots c.loop-key.key-iterator (potentials_of c.loop-key.settled) (derivs_of c.loop-key.settled) left c.loop-key.invariant
+    let kept : All (IsKept c.args.table.task) c.in_order-items.result.items = All-permutation (IsKept c.args.table.task) c.into_items.result.items c.in_order-items.result.items c.in_order-items.ensures.same c.into_items.ensures.kept in
+    let whole : c.loop-place.place ≡ length c.in_order-items.result.items = omega arith in
+    gathering_ended c.args.table.task c.in_order-items.result.items c.in_order-items.ensures.order kept c.args.table.pots
+    (item_of c.into_items.result.items c.in_order-items.result.items c.args.table.pots c.into_items.ensures.pots c.in_order-items.ensures.same) (potentials_of c.loop-place.settled) (derivs_of c.loop-place.settled)
+    (subst (λ n. IsGathering c.args.table.task c.in_order-items.result.items n (potentials_of c.loop-place.settled) (derivs_of c.loop-place.settled)) whole c.loop-place.invariant)

@@ -5,31 +5,21 @@ use Rattle.knuth_search.proofs.Filed.{keeps_same, stored_kept, stored_pushed}
 use Rattle.knuth_search.proofs.table.Table.put.Goals as goal
 
 pub invariant_of-self : goal.invariant_of-self
-invariant_of-self c = stored_kept (record { machine = c.self.inside.machine.now; starts = c.self.inside.starts.now }) c.self.inside.items.items c.self.inside.by_root c.self.inside.by_state c.file_root.new.rows c.self.inside.by_state c.self.inside.places.entries c.self.invariant c.file_root.ensures.kept (keeps_same c.self.inside.by_state c.self.inside.by_state refl)
+invariant_of-self c = stored_kept (record { machine = c.self.inside.machine.now; starts = c.self.inside.starts.now }) c.self.inside.items.items c.self.inside.by_root c.self.inside.by_state c.file_root.new.rows c.self.inside.by_state c.self.invariant c.file_root.ensures.kept (keeps_same c.self.inside.by_state c.self.inside.by_state refl)
 
 pub invariant_of-self-in_err-file : goal.invariant_of-self-in_err-file
-invariant_of-self-in_err-file c = stored_kept (record { machine = c.self.inside.machine.now; starts = c.self.inside.starts.now }) c.self.inside.items.items c.self.inside.by_root c.self.inside.by_state c.file_root.new.rows c.file.new.rows c.self.inside.places.entries c.self.invariant c.file_root.ensures.kept c.file.ensures.kept
+invariant_of-self-in_err-file c = stored_kept (record { machine = c.self.inside.machine.now; starts = c.self.inside.starts.now }) c.self.inside.items.items c.self.inside.by_root c.self.inside.by_state c.file_root.new.rows c.file.new.rows c.self.invariant c.file_root.ensures.kept c.file.ensures.kept
 
 pub invariant_of-self-then-is_err : goal.invariant_of-self-then-is_err
 invariant_of-self-then-is_err c =
     let same : c.push.new.self.items ≡ c.self.inside.items.items = grind (arith, common_steps) in
-    subst (λ v. AreStored (record { machine = c.self.inside.machine.now; starts = c.self.inside.starts.now }) v c.file_root.new.rows c.file.new.rows c.self.inside.places.entries) (sym same)
-    (stored_kept (record { machine = c.self.inside.machine.now; starts = c.self.inside.starts.now }) c.self.inside.items.items c.self.inside.by_root c.self.inside.by_state c.file_root.new.rows c.file.new.rows c.self.inside.places.entries c.self.invariant c.file_root.ensures.kept c.file.ensures.kept)
+    subst (λ v. AreStored (record { machine = c.self.inside.machine.now; starts = c.self.inside.starts.now }) v c.file_root.new.rows c.file.new.rows) (sym same)
+    (stored_kept (record { machine = c.self.inside.machine.now; starts = c.self.inside.starts.now }) c.self.inside.items.items c.self.inside.by_root c.self.inside.by_state c.file_root.new.rows c.file.new.rows c.self.invariant c.file_root.ensures.kept c.file.ensures.kept)
 
-pub invariant_of-self-in-Ok : goal.invariant_of-self-in-Ok
-invariant_of-self-in-Ok c =
+pub invariant_of-self-2 : goal.invariant_of-self-2
+invariant_of-self-2 c =
     let pushed : c.push.new.self.items ≡ c.self.inside.items.items ++ c.args.next ∷ [] = grind (arith, common_steps) in
     let place : c.len-place.result ≡ length c.self.inside.items.items = grind (arith, common_steps) in
-    stored_pushed (record { machine = c.self.inside.machine.now; starts = c.self.inside.starts.now }) c.self.inside.items.items c.args.self.now.pots (ap (λ v. v.pots) c.self.view_is) c.file_root.new.rows c.file.new.rows
-    c.self.inside.places.entries c.insert.new.self.entries c.args.next c.len-place.result place
-    (stored_kept (record { machine = c.self.inside.machine.now; starts = c.self.inside.starts.now }) c.self.inside.items.items c.self.inside.by_root c.self.inside.by_state c.file_root.new.rows c.file.new.rows c.self.inside.places.entries c.self.invariant c.file_root.ensures.kept c.file.ensures.kept)
-    c.requires.lighter (subst (λ t. IsKept t c.args.next) (sym (ap (λ v. v.task) c.self.view_is)) c.requires.kept)
-    c.in_ok-file_root.ensures.here c.in_ok-file.ensures.here c.root_key.result c.root_key.ensures c.in-Ok.ensures.updates.0 c.push.new.self.items pushed
-
-pub invariant_of-self-in-Err : goal.invariant_of-self-in-Err
-invariant_of-self-in-Err c =
-    let pushed : c.push.new.self.items ≡ c.self.inside.items.items ++ c.args.next ∷ [] = grind (arith, common_steps) in
-    let same : c.pop-last.new.self.items ≡ c.self.inside.items.items = grind (arith, common_steps) in
-    subst (λ v. AreStored (record { machine = c.self.inside.machine.now; starts = c.self.inside.starts.now }) v c.file_root.new.rows c.file.new.rows c.insert.new.self.entries) (sym same)
-    (subst (λ v. AreStored (record { machine = c.self.inside.machine.now; starts = c.self.inside.starts.now }) c.self.inside.items.items c.file_root.new.rows c.file.new.rows v) (sym c.in-Err.ensures.err)
-    (stored_kept (record { machine = c.self.inside.machine.now; starts = c.self.inside.starts.now }) c.self.inside.items.items c.self.inside.by_root c.self.inside.by_state c.file_root.new.rows c.file.new.rows c.self.inside.places.entries c.self.invariant c.file_root.ensures.kept c.file.ensures.kept))
+    stored_pushed (record { machine = c.self.inside.machine.now; starts = c.self.inside.starts.now }) c.self.inside.items.items c.file_root.new.rows c.file.new.rows c.args.next c.len-place.result place
+    (stored_kept (record { machine = c.self.inside.machine.now; starts = c.self.inside.starts.now }) c.self.inside.items.items c.self.inside.by_root c.self.inside.by_state c.file_root.new.rows c.file.new.rows c.self.invariant c.file_root.ensures.kept c.file.ensures.kept)
+    (subst (λ t. IsKept t c.args.next) (sym (ap (λ v. v.task) c.self.view_is)) c.requires) c.in_ok-file_root.ensures.here c.in_ok-file.ensures.here c.push.new.self.items pushed
