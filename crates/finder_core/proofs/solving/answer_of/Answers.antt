@@ -1,0 +1,6 @@
+use Rattle.finder_core.proofs.Answered.{exact_answer}
+use Rattle.finder_core.proofs.solving.answer_of.Goals as goal
+
+pub returns-clause-exact : goal.returns-clause-exact
+returns-clause-exact c = exact_answer c.args.inventory.now c.args.request.now c.in_ok-request.request c.args.searched.told.outcome c.args.searched.told.walk.hops c.args.searched.told.walk.flags c.in_ok-rules.rules c.in_ok-potentials.potentials
+    c.in_ok-request.ensures c.requires.known c.requires.told c.in_ok-rules.ensures.rules (c.in_ok-potentials.ensures c.args.inventory.now c.args.request.now c.requires.built c.requires.potentials)
