@@ -23,7 +23,8 @@ use Rattle.answer_text.specs.Exact.{AreHopsOf, IsExactAnswer}
 use Rattle.answer_text.specs.Ordered.{IsNoWalk, IsOrdered, IsShortOutcome, IsWalkOrdered}
 use Rattle.answer_text.specs.Potentials.{ArePotentials}
 use Rattle.answer_text.proofs.Certified.{certified}
-use Rattle.finder_core.specs.Outcomes.{IsMachineOf, IsTold}
+use Rattle.machine_lift.specs.Lift.{IsMachineOf}
+use Rattle.finder_core.specs.Outcomes.{IsTold}
 use Rattle.finder_core.proofs.Flagged.{flags_for_hops}
 
 make_answer : Request → Outcome → List Hop → List (Option ℕ) → List Rule → List PotLine → Answer

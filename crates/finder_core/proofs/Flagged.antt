@@ -23,12 +23,11 @@ use Rattle.circuit_spec.specs.Steps.{Ends, Joins, Step, Walk}
 use Rattle.circuit_spec.proofs.ClassLemmas.{First-unique}
 use Rattle.open_places.specs.Places.{IsRising}
 use Rattle.machine_build.specs.Built.{BuiltValue, IsBuilt, IsDoneBy, IsHopAt, IsState, MovesBy}
-use Rattle.machine_lift.specs.Lift.{AreHopsAt}
+use Rattle.machine_lift.specs.Lift.{AreHopsAt, IsMachineOf}
 use Rattle.machine_lift.proofs.States.{one_number, same_at}
 use Rattle.answer_text.specs.Arriving.{start_of}
 use Rattle.answer_text.specs.Certificate.{AreFlagged}
 use Rattle.answer_text.proofs.Carried.{walk_flagged}
-use Rattle.finder_core.specs.Outcomes.{IsMachineOf}
 use Rattle.finder_core.specs.Passing.{flags_of, repeats_after, state_entered, state_left, states_entered}
 
 -- Places are the same where their states are

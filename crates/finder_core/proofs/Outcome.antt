@@ -29,10 +29,10 @@ use Rattle.circuit_spec.proofs.CappedWeights.{cap_known, exact_outcome}
 use Rattle.circuit_spec.proofs.KeptWalks.{kept_outcome, segment_walk, walk_segment}
 use Rattle.kept_table.specs.Table.{keeping_of}
 use Rattle.machine_build.specs.Built.{BuiltValue}
-use Rattle.machine_lift.specs.Lift.{AreHopsAt, AreLifted}
+use Rattle.machine_lift.specs.Lift.{AreHopsAt, AreLifted, IsMachineOf}
 use Rattle.machine_lift.proofs.Lifted.{lifted}
 use Rattle.answer_text.specs.Exact.{AreHopsOf}
-use Rattle.finder_core.specs.Outcomes.{IsCheapestWalk, IsListable, IsMachineOf, outcome_of}
+use Rattle.finder_core.specs.Outcomes.{IsCheapestWalk, IsListable, outcome_of}
 
 -- The outcome of a least capped weight
 

@@ -9,8 +9,8 @@ use Rattle.circuit_spec.specs.Faults.{IsKnown}
 use Rattle.circuit_spec.specs.Network.{Topology}
 use Rattle.circuit_spec.specs.Steps.{IsOutcome}
 use Rattle.machine_build.specs.Built.{BuiltValue}
-use Rattle.machine_lift.specs.Lift.{AreHopsAt}
-use Rattle.finder_core.specs.Outcomes.{IsCheapestWalk, IsMachineOf, IsTold, outcome_of}
+use Rattle.machine_lift.specs.Lift.{AreHopsAt, IsMachineOf}
+use Rattle.finder_core.specs.Outcomes.{IsCheapestWalk, IsTold, outcome_of}
 use Rattle.finder_core.specs.Passing.{flags_of}
 use Rattle.finder_core.proofs.Flagged.{none_flagged, walk_flags}
 use Rattle.finder_core.proofs.Outcome.{hops_found, hops_unfound}

@@ -11,17 +11,10 @@ use Rattle.circuit_spec.specs.declared.hops.Request.{Request}
 use Rattle.circuit_spec.specs.declared.hops.TheConstants.{HOP_LIMIT}
 use Rattle.circuit_spec.specs.Network.{Topology}
 use Rattle.circuit_spec.specs.Steps.{IsOutcome, Walk, weight_of}
-use Rattle.kept_table.specs.Table.{IsKeptTable, KeptOfType}
-use Rattle.machine_build.specs.Built.{BuiltValue, IsBuilt, IsHopAt}
+use Rattle.machine_build.specs.Built.{BuiltValue, IsHopAt}
 use Rattle.machine_lift.specs.Lift.{AreHopsAt}
 use Rattle.answer_text.specs.Certificate.{AreFlagged}
 use Rattle.answer_text.specs.Exact.{AreHopsOf}
-
--- the machine is built over the kept labels of the request
-pub record IsMachineOf (T : Topology) (r : Request) (b : BuiltValue) : Type 0 where
-  pub table : List KeptOfType
-  pub kept : IsKeptTable T r table
-  pub built : IsBuilt T table r b
 
 abbrev pub outcome_of : Weight → Outcome
 outcome_of weight.Past = Past

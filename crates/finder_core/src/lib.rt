@@ -4,7 +4,6 @@
 mod faults;
 mod flagging;
 mod known;
-mod lifting;
 mod listing;
 mod searching;
 mod solving;

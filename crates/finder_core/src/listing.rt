@@ -1,8 +1,8 @@
 ghost use Rattle.std.specs.Prelude.{◌≡◌, ◌<◌, IfOk, length};
 ghost use Rattle.std.specs.List.{AllByRecursion};
 ghost use Rattle.deriv_arena.specs.Derivation.{kept_weight, unfolding_of, IsOver};
-ghost use Rattle.machine_lift.specs.Lift.{AreHopsAt};
-ghost use Rattle.finder_core.specs.Outcomes.{AddsHop, IsListable, IsMachineOf};
+ghost use Rattle.machine_lift.specs.Lift.{AreHopsAt, IsMachineOf};
+ghost use Rattle.finder_core.specs.Outcomes.{AddsHop, IsListable};
 ghost use Rattle.finder_core.specs.Passing.{AddsFlag, flags_of};
 
 use crate::flagging::{add_flag, begin_visits};

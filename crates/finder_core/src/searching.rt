@@ -2,7 +2,8 @@ ghost use Rattle.std.specs.Prelude.{◌≡◌, [], IfOk};
 ghost use Rattle.circuit_spec.specs.Faults.{IsKnown, IsSound};
 ghost use Rattle.deriv_arena.specs.Derivation.{kept_weight, unfolding_of, IsOver};
 ghost use Rattle.knuth_search.specs.Settled.{ArePotentials};
-ghost use Rattle.finder_core.specs.Outcomes.{IsCheapestWalk, IsMachineOf, IsTold, outcome_of};
+ghost use Rattle.machine_lift.specs.Lift.{IsMachineOf};
+ghost use Rattle.finder_core.specs.Outcomes.{IsCheapestWalk, IsTold, outcome_of};
 
 use crate::listing::{Listed, list_walk};
 use answer_text::FlagList;

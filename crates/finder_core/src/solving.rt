@@ -5,12 +5,12 @@ ghost use Rattle.answer_text.specs.Certificate.{Certificate};
 ghost use Rattle.answer_text.specs.Exact.{IsExactAnswer};
 ghost use Rattle.answer_text.specs.Ordered.{IsOrdered};
 ghost use Rattle.answer_text.specs.Spelling.{IsWellFormed};
-ghost use Rattle.finder_core.specs.Outcomes.{IsMachineOf, IsTold};
+ghost use Rattle.machine_lift.specs.Lift.{IsMachineOf};
+ghost use Rattle.finder_core.specs.Outcomes.{IsTold};
 ghost use Rattle.finder_core.specs.Refusals.{IsRefusal};
 
 use crate::faults::SolveFault;
 use crate::known::check_known;
-use crate::lifting::potentials_of;
 use crate::searching::{Searched, search_machine};
 use answer_text::{Answer, well_formed};
 use circuit_spec::Request;
@@ -19,6 +19,7 @@ use kept_table::kept_of;
 use machine_build::{Built, build};
 use ml_base::NoMemory;
 use nml_inventory::Inventory;
+use potential_lift::potentials_of;
 use std::alloc::Global;
 
 /// The machine of a known request.

@@ -11,20 +11,20 @@ use Rattle.ml_base.specs.declared.numbers.Root.TheVariants as root
 use Rattle.walk_grammar.specs.System.{Goes, Run, IsSegmentUnder as IsUnder, cost_of as system_cost}
 use Rattle.adapt_machine.specs.declared.MachineStep.{MachineStep}
 use Rattle.adapt_machine.specs.Walks.{full_weight_of, system_of}
-use Rattle.segment_grammar.specs.Reached.{IsSegmentUnder, origin_of}
+use Rattle.segment_grammar.specs.Reached.{IsReached as IsReachedState, IsSegmentUnder, origin_of}
 use Rattle.circuit_spec.specs.declared.hops.Hop.{Hop}
 use Rattle.circuit_spec.specs.declared.hops.PlaceName.{PlaceName}
 use Rattle.circuit_spec.specs.declared.hops.Request.{Request}
 use Rattle.circuit_spec.specs.Network.{Topology}
-use Rattle.circuit_spec.specs.Segments.{RootPlace, request, entry, IsSegmentOf, IsStart, IsTarget}
+use Rattle.circuit_spec.specs.Segments.{RootPlace, request, entry, IsReached, IsSegmentOf, IsStart, IsTarget}
 use Rattle.circuit_spec.specs.Steps.{weight_of}
 use Rattle.circuit_spec.proofs.HopSegments.{kept_system, origin, same_cost, segment_in, segment_out}
 use Rattle.kept_table.specs.Table.{IsKeptTable, KeptOfType}
 use Rattle.machine_build.specs.Built.{BuiltValue, IsBuilt, IsHopAt, IsState}
-use Rattle.machine_lift.specs.Lift.{AreHopsAt, AreLifted, AreStatesOf, IsRootAt}
+use Rattle.machine_lift.specs.Lift.{AreHopsAt, AreLifted, ArePaired, AreStatesOf, IsMachineOf, IsRootAt}
 use Rattle.machine_lift.proofs.Doing.{down, kept_end, machine_does, network_does, place_state, start_place, target_place, up}
 use Rattle.machine_lift.proofs.OneHop.{one_hop}
-use Rattle.machine_lift.proofs.Simulations.{AreRelated, Stands, stands}
+use Rattle.machine_lift.proofs.Simulations.{AreRelated, Stands, end_met, root_met, stands}
 
 -- Hops of steps
 
@@ -153,3 +153,31 @@ module _ (T : Topology) (r : Request) (table : List KeptOfType) (kept : IsKeptTa
     starts = starts_are;
     targets = targets_are;
   }
+
+  -- Pairs of the other side
+
+  placed_root : (root : Root) (ks : List ℕ) (state : StateNo) → Machine-segment root ks state → (at : RootPlace) × IsRootAt b root at
+  placed_root root.Request ks state is = (request, tt)
+  placed_root (root.Entry e) ks state is = let x = root_met _ _ _ _ _ (network_does T r table kept b built) e is.0 in (entry x.0, x.1)
+
+  stated_root : (at : RootPlace) (hops : List Hop) (place : PlaceName) → IsSegmentOf T r at hops place → (root : Root) × IsRootAt b root at
+  stated_root request hops place is = (root.Request, tt)
+  stated_root (entry x) hops place is = let e = root_met _ _ _ _ _ (machine_does T r table kept b built) x (segment_in T r (entry x) hops place is).0 in (root.Entry e.0, e.1)
+
+  places_met : (root : Root) (state : StateNo) → IsReachedState b.machine.steps b.starts root state → (at : RootPlace) × (place : PlaceName) × IsRootAt b root at × IsState b state place
+  places_met root state is =
+      let at = placed_root root is.0 state is.1 in
+      let place = end_met _ _ _ _ _ (network_does T r table kept b built) (origin_of root) is.0 state is.1 in
+      (at.0, place.0, at.1, place.1)
+
+  states_met : (at : RootPlace) (place : PlaceName) → IsReached T r at place → (root : Root) × (state : StateNo) × IsRootAt b root at × IsState b state place
+  states_met at place is =
+      let root = stated_root at is.0 place is.1 in
+      let state = end_met _ _ _ _ _ (machine_does T r table kept b built) (origin at) is.0 place (segment_in T r at is.0 place is.1) in
+      (root.0, state.0, root.1, state.1)
+
+pub paired : (T : Topology) (r : Request) (b : BuiltValue) → IsMachineOf T r b → ArePaired T r b
+paired T r b m = record {
+  places = places_met T r m.table m.kept b m.built;
+  states = states_met T r m.table m.kept b m.built;
+}

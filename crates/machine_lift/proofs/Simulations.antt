@@ -167,3 +167,21 @@ module _ {State Frame Step State' Frame' Step' : Type 0} (S : System State Frame
   stands (Entry x) (Entry x') ks y y' roots at is =
       let w = went ks x [] y [] x' [] is.1 roots refl in
       record { steps = w.steps; same_steps = w.same_steps; cost = w.cost; segment = (entered x x' roots is.0, run_stands ks y x' y' w at) }
+
+  -- related states of the root and of the end of a segment
+  pub root_met : (x : State) → IsEntered S Start x → (x' : State') × R.states x x'
+  root_met x is =
+      let a = sim.starts is.0 is.1 in
+      let w = went is.2.0 is.0 [] is.2.1 is.2.2 a.0 [] is.2.3 a.1 refl in
+      let d = sim.pushes is.2.1 is.2.4.0 is.2.4.1 x w.to is.2.4.2 w.same_to in
+      (d.to, d.same_to)
+
+  pub end_met : (root : Origin State) (ks : List Step) (y : State) → IsSegmentUnder S Start root ks y → (y' : State') × R.states y y'
+  end_met Request ks y is =
+      let a = sim.starts is.0 is.1 in
+      let w = went ks is.0 [] y [] a.0 [] is.2 a.1 refl in
+      (w.to, w.same_to)
+  end_met (Entry x) ks y is =
+      let e = root_met x is.0 in
+      let w = went ks x [] y [] e.0 [] is.1 e.1 refl in
+      (w.to, w.same_to)

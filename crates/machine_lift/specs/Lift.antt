@@ -1,22 +1,31 @@
 -- Segments of a machine as segments of its network.
+--   IsMachineOf  the machine of a network for a request
 --   IsRootAt     a root of the machine is at a root of the network
 --   AreHopsAt    the hops of steps
 --   AreStatesOf  the states of places
 --   AreLifted    the segments of the one are those of the other
+--   ArePaired    each pair that the one reaches belongs to a pair of the other
 use Rattle.std.specs.Prelude.{◌≡◌, ℕ, ◌<◌, List, [], ◌∷◌, length}
 use Rattle.std.specs.List.{AllByRecursion, Contains}
 use Rattle.ml_base.specs.declared.numbers.StateNo.{StateNo}
 use Rattle.ml_base.specs.declared.numbers.Root.{Root}
 use Rattle.ml_base.specs.declared.numbers.Root.TheVariants as root
 use Rattle.adapt_machine.specs.Walks.{full_weight_of}
-use Rattle.segment_grammar.specs.Reached.{IsSegmentUnder}
+use Rattle.segment_grammar.specs.Reached.{IsReached as IsReachedState, IsSegmentUnder}
 use Rattle.circuit_spec.specs.declared.hops.Hop.{Hop}
 use Rattle.circuit_spec.specs.declared.hops.PlaceName.{PlaceName}
 use Rattle.circuit_spec.specs.declared.hops.Request.{Request}
 use Rattle.circuit_spec.specs.Network.{Topology}
 use Rattle.circuit_spec.specs.Steps.{weight_of}
-use Rattle.circuit_spec.specs.Segments.{RootPlace, request, entry, IsSegmentOf, IsStart, IsTarget}
-use Rattle.machine_build.specs.Built.{BuiltValue, IsHopAt, IsState}
+use Rattle.circuit_spec.specs.Segments.{RootPlace, request, entry, IsReached, IsSegmentOf, IsStart, IsTarget}
+use Rattle.kept_table.specs.Table.{IsKeptTable, KeptOfType}
+use Rattle.machine_build.specs.Built.{BuiltValue, IsBuilt, IsHopAt, IsState}
+
+-- the machine is built over the kept labels of the request
+pub record IsMachineOf (T : Topology) (r : Request) (b : BuiltValue) : Type 0 where
+  pub table : List KeptOfType
+  pub kept : IsKeptTable T r table
+  pub built : IsBuilt T table r b
 
 -- the root of the network at a root of the machine: the request at the request, a place at its state
 abbrev pub IsRootAt : BuiltValue → Root → RootPlace → Type 0
@@ -52,3 +61,8 @@ pub record AreLifted (T : Topology) (r : Request) (b : BuiltValue) : Type 0 wher
   -- the segments of the request begin at the starts, and its walks end at the targets
   pub starts : AreStatesOf b (IsStart T r) b.starts
   pub targets : AreStatesOf b (IsTarget T r) b.targets
+
+-- each pair that is reached belongs to a pair on the other side
+pub record ArePaired (T : Topology) (r : Request) (b : BuiltValue) : Type 0 where
+  pub places : (root : Root) (state : StateNo) → IsReachedState b.machine.steps b.starts root state → (at : RootPlace) × (place : PlaceName) × IsRootAt b root at × IsState b state place
+  pub states : (at : RootPlace) (place : PlaceName) → IsReached T r at place → (root : Root) × (state : StateNo) × IsRootAt b root at × IsState b state place

@@ -3,4 +3,4 @@
 
 mod laws;
 
-pub use laws::{pairs_are_lifted, segments_are_lifted};
+pub use laws::{pairs_are_lifted, reached_pairs_meet, segments_are_lifted};

@@ -78,9 +78,10 @@ impl Potentials {
         self.items.get(place as usize)
     }
 
-    /// All of them, for a `for`.
+    /// All of them, in their order, for a `for`.
     pub fn as_slice(&self) -> &[Pot]
-        ensures { result.now ≡ self.now }
+        ensures value { result.now ≡ self.now }
+        ensures rising { IsRising result.now }
     {
         self.items.as_slice()
     }
