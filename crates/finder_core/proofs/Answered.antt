@@ -35,7 +35,7 @@ pub exact_answer : (T : Topology) (r same : Request) (o : Outcome) (hops : List 
 unfolding make_answer
 exact_answer T r same o hops flags rules potentials e known told ruled pots =
     let exact : IsExactAnswer T (make_answer r o hops flags rules potentials) =
-        record { known = known; outcome = told.is_outcome; hops = told.are_hops; flags = told.are_flags; rules = ruled; potentials = pots } in
+    record { known = known; outcome = told.is_outcome; hops = told.are_hops; flags = told.are_flags; rules = ruled; potentials = pots } in
     subst (λ q. IsExactAnswer T (make_answer q o hops flags rules potentials)) (sym e) exact
 
 -- In order

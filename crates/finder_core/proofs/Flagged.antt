@@ -61,6 +61,7 @@ same_test places s t x y rise atx aty = go (cases_eq t s)
     other : (b : Bool) → same_place x y ≡ b → t ≢ s → false ≡ same_place x y
     other true e ne = absurd (ne (one_number places t s x rise (subst (λ z. slice_get places t ≡ Some z) (sym (same_places x y e)) aty) atx))
     other false e ne = sym e
+
     go : (t ≡ s) ⊎ (t ≡ s → ⊥) → nat_eq t s ≡ same_place x y
     go (inl e) =
         let same : x ≡ y = same_at places s x y atx (subst (λ n. slice_get places n ≡ Some y) e aty) in
@@ -152,8 +153,8 @@ module _ (T : Topology) (r : Request) (b : BuiltValue) (is : IsMachineOf T r b) 
       let steps = b.machine.steps in
       let places = entered (k ∷ ks) (h ∷ hops) are in
       let start : slice_get b.places (state_left steps k) ≡ Some (start_of walk.0) =
-          subst (λ s. slice_get b.places s ≡ Some (start_of walk.0)) (sym (start_here steps k at.step at.step_at))
-          (at.leaves_at ∙ ap Some (begins k h hops at walk.0 walk.1)) in
+      subst (λ s. slice_get b.places s ≡ Some (start_of walk.0)) (sym (start_here steps k at.step at.step_at))
+      (at.leaves_at ∙ ap Some (begins k h hops at walk.0 walk.1)) in
       let same = same_flags b.places is.built.rise (state_left steps k ∷ []) (states_entered steps (k ∷ ks)) (start_of walk.0 ∷ []) places.0 (start, refl) places.2 in
       walk_flagged T r (h ∷ hops) flags walk.0 walk.1 (places.0, places.1, e ∙ same)
 

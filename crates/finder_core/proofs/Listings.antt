@@ -64,7 +64,7 @@ listing_turn T b steps now k left hops more flags flags' numbers numbers' same l
     let below : state < b.machine.states = subst (λ n. state < n) (seen_length b.machine.states passed numbers l.visited) flag.within in
     let answer = answer_is b.machine.states passed numbers state l.visited below in
     let counted : length more ≡ length passed =
-        ap length hop.added ∙ length-append hops (hop.hop ∷ []) ∙ add-one (length hops) ∙ ap suc (hops_counted T b l.done hops l.are ∙ sym (length-map l.done (state_entered b.machine.steps))) in
+    ap length hop.added ∙ length-append hops (hop.hop ∷ []) ∙ add-one (length hops) ∙ ap suc (hops_counted T b l.done hops l.are ∙ sym (length-map l.done (state_entered b.machine.steps))) in
     record {
       first = l.first;
       rest = l.rest;
