@@ -1,3 +1,7 @@
 mod Refused
 mod Outcome
-mod HopLists
+mod Passing
+mod Flagged
+mod Listings
+mod Told
+mod Answered

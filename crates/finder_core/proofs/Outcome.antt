@@ -13,7 +13,8 @@ use Rattle.adapt_machine.specs.Walks.{full_weight_of}
 use Rattle.segment_grammar.specs.Reached.{IsReached, IsSegmentUnder}
 use Rattle.deriv_arena.specs.declared.Deriv.{Deriv}
 use Rattle.deriv_arena.specs.Derivation.{kept_weight, unfolding_of}
-use Rattle.knuth_search.specs.Settled.{IsBest}
+use Rattle.segment_grammar.specs.declared.potentials.Pot.{Pot}
+use Rattle.knuth_search.specs.Settled.{ArePotentials, IsBest}
 use Rattle.circuit_spec.specs.declared.hops.Hop.{Hop}
 use Rattle.circuit_spec.specs.declared.hops.Outcome.{Outcome}
 use Rattle.circuit_spec.specs.declared.hops.Outcome.TheVariants.{Found, NoWalk, Past, Long}
@@ -28,10 +29,10 @@ use Rattle.circuit_spec.proofs.CappedWeights.{cap_known, exact_outcome}
 use Rattle.circuit_spec.proofs.KeptWalks.{kept_outcome, segment_walk, walk_segment}
 use Rattle.kept_table.specs.Table.{keeping_of}
 use Rattle.machine_build.specs.Built.{BuiltValue}
-use Rattle.machine_lift.specs.Lift.{AreHopsAt, AreLifted}
+use Rattle.machine_lift.specs.Lift.{AreHopsAt, AreLifted, IsMachineOf}
 use Rattle.machine_lift.proofs.Lifted.{lifted}
-use Rattle.finder_core.specs.Outcomes.{IsCheapestWalk, IsListable, IsMachineOf, outcome_of}
-use Rattle.finder_core.specs.Solved.{IsListed}
+use Rattle.answer_text.specs.Exact.{AreHopsOf}
+use Rattle.finder_core.specs.Outcomes.{IsCheapestWalk, IsListable, outcome_of}
 
 -- The outcome of a least capped weight
 
@@ -112,6 +113,9 @@ NoneReached m starts targets = (target : StateNo) → Contains targets target �
 pub none_reached : (b : BuiltValue) (m : MachineValue) (starts targets : List StateNo) → m ≡ b.machine → starts ≡ b.starts → targets ≡ b.targets → NoneReached m starts targets → NoneReached b.machine b.starts b.targets
 none_reached b m starts targets e f g none = subst (λ x. NoneReached x b.starts b.targets) e (subst (λ x. NoneReached m x b.targets) f (subst (λ x. NoneReached m starts x) g none))
 
+pub potentials_for : (b : BuiltValue) (m : MachineValue) (starts : List StateNo) (pots : List Pot) → m ≡ b.machine → starts ≡ b.starts → ArePotentials m.steps starts pots → ArePotentials b.machine.steps b.starts pots
+potentials_for b m starts pots e f are = subst (λ (x : MachineValue). ArePotentials x.steps b.starts pots) e (subst (λ x. ArePotentials m.steps x pots) f are)
+
 -- What is listed
 
 -- a found outcome is of a weight within the limit
@@ -141,15 +145,15 @@ exact_weight w cost hops e within =
     exact_hops n h e below = grind (arith, common_steps)
 
 -- the listed hops are of the outcome
-pub is_listed : (T : Topology) (r : Request) (b : BuiltValue) (w : Weight) (ks : List ℕ) (cost hops : ℕ) (list : List Hop) → IsCheapestWalk T r b w ks → Found cost hops ≡ outcome_of w → AreHopsAt T b ks list → IsListed T r (Found cost hops) list
-is_listed T r b w ks cost hops list c e are =
+pub hops_found : (T : Topology) (r : Request) (b : BuiltValue) (w : Weight) (ks : List ℕ) (cost hops : ℕ) (list : List Hop) → IsCheapestWalk T r b w ks → Found cost hops ≡ outcome_of w → AreHopsAt T b ks list → AreHopsOf T r (Found cost hops) list
+hops_found T r b w ks cost hops list c e are =
     let walk = c.walks list are in
     let k = found_weight w cost hops e in
     (walk.0, walk.1 ∙ exact_weight (full_weight_of b.machine.steps ks) cost hops (c.weighs ∙ k.0) k.1)
 
 -- no hops are listed where none are found
-pub none_listed : (T : Topology) (r : Request) (o : Outcome) (list : List Hop) → ((cost hops : ℕ) → o ≡ Found cost hops → ⊥) → list ≡ [] → IsListed T r o list
-none_listed T r (Found cost hops) list other empty = absurd (other cost hops refl)
-none_listed T r NoWalk list other empty = empty
-none_listed T r Past list other empty = empty
-none_listed T r (Long cost hops) list other empty = empty
+pub hops_unfound : (T : Topology) (r : Request) (o : Outcome) (list : List Hop) → ((cost hops : ℕ) → o ≡ Found cost hops → ⊥) → list ≡ [] → AreHopsOf T r o list
+hops_unfound T r (Found cost hops) list other empty = absurd (other cost hops refl)
+hops_unfound T r NoWalk list other empty = empty
+hops_unfound T r Past list other empty = empty
+hops_unfound T r (Long cost hops) list other empty = empty

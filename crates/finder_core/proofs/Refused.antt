@@ -25,7 +25,7 @@ use Rattle.nml_inventory.proofs.Names.{find_number}
 use Rattle.nml_inventory.proofs.PortNumbers.{number_found}
 use Rattle.finder_core.specs.declared.faults.SolveFault.{SolveFault}
 use Rattle.finder_core.specs.declared.faults.SolveFault.TheVariants.{UnknownPort, LabelNotHere, NoMemory}
-use Rattle.finder_core.specs.Solved.{IsClassOf, IsMissed, IsRefusal, IsUnknown}
+use Rattle.finder_core.specs.Refusals.{IsClassOf, IsMissed, IsRefusal, IsUnknown}
 
 is_port : (T : Topology) (id : Name) (n : ℕ) → IsClassOf T id n → IsPort T id
 is_port T id n c = class_is_port T id c.class c.is_class

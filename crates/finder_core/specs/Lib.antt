@@ -1,2 +1,3 @@
-pub mod Solved
+pub mod Refusals
 pub mod Outcomes
+pub mod Passing

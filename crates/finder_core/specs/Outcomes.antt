@@ -1,5 +1,5 @@
 -- The outcome of a request, by a cheapest segment of its machine.
-use Rattle.std.specs.Prelude.{◌≡◌, ◌<◌, ◌≤◌, ◌++◌, ◌∷◌, [], ℕ, List, cond, length, nat_lt}
+use Rattle.std.specs.Prelude.{◌≡◌, ◌<◌, ◌≤◌, ◌++◌, ◌∷◌, [], ℕ, List, Option, cond, length, nat_lt}
 use Rattle.std.specs.List.{AllByRecursion}
 use Rattle.ml_base.specs.declared.weight.Weight.{Weight}
 use Rattle.ml_base.specs.declared.weight.Weight.TheVariants as weight
@@ -11,15 +11,10 @@ use Rattle.circuit_spec.specs.declared.hops.Request.{Request}
 use Rattle.circuit_spec.specs.declared.hops.TheConstants.{HOP_LIMIT}
 use Rattle.circuit_spec.specs.Network.{Topology}
 use Rattle.circuit_spec.specs.Steps.{IsOutcome, Walk, weight_of}
-use Rattle.kept_table.specs.Table.{IsKeptTable, KeptOfType}
-use Rattle.machine_build.specs.Built.{BuiltValue, IsBuilt, IsHopAt}
+use Rattle.machine_build.specs.Built.{BuiltValue, IsHopAt}
 use Rattle.machine_lift.specs.Lift.{AreHopsAt}
-
--- the machine is built over the kept labels of the request
-pub record IsMachineOf (T : Topology) (r : Request) (b : BuiltValue) : Type 0 where
-  pub table : List KeptOfType
-  pub kept : IsKeptTable T r table
-  pub built : IsBuilt T table r b
+use Rattle.answer_text.specs.Certificate.{AreFlagged}
+use Rattle.answer_text.specs.Exact.{AreHopsOf}
 
 abbrev pub outcome_of : Weight → Outcome
 outcome_of weight.Past = Past
@@ -42,3 +37,9 @@ pub record AddsHop (T : Topology) (b : BuiltValue) (k : ℕ) (old new : List Hop
   pub hop : Hop
   pub is_hop : IsHopAt T b k hop
   pub added : new ≡ old ++ hop ∷ []
+
+-- the outcome, with a walk where it is found, and the flags of its hops
+pub record IsTold (T : Topology) (r : Request) (outcome : Outcome) (hops : List Hop) (flags : List (Option ℕ)) : Type 0 where
+  pub is_outcome : IsOutcome T r outcome
+  pub are_hops : AreHopsOf T r outcome hops
+  pub are_flags : AreFlagged T r hops flags

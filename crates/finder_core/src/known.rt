@@ -1,7 +1,7 @@
 ghost use Rattle.std.specs.Prelude.{◌≡◌, IfOk, IfErr, OnOk};
 ghost use Rattle.nml_elements.specs.Labels.{is_among};
 ghost use Rattle.circuit_spec.specs.Faults.{IsKnown, IsKnownEnd, IsSound};
-ghost use Rattle.finder_core.specs.Solved.{IsClassOf, IsMissed, IsRefusal, IsUnknown};
+ghost use Rattle.finder_core.specs.Refusals.{IsClassOf, IsMissed, IsRefusal, IsUnknown};
 
 use crate::faults::SolveFault;
 use circuit_spec::Request;

@@ -1,10 +1,12 @@
-//! What answers a request: its outcome, and the hops of a cheapest walk.
+//! What answers a request: its outcome, the hops of a cheapest walk with their flags and rules, and the potentials.
 #![tactic(auto)]
 
 mod faults;
+mod flagging;
 mod known;
 mod listing;
+mod searching;
 mod solving;
 
 pub use faults::SolveFault;
-pub use solving::{Solved, solve};
+pub use solving::solve;

@@ -1,130 +1,111 @@
-ghost use Rattle.std.specs.Prelude.{◌≡◌, IfOk, IfErr, OnOk};
+ghost use Rattle.std.specs.Prelude.{◌≡◌, IfOk, IfErr};
 ghost use Rattle.circuit_spec.specs.Faults.{IsKnown, IsSound};
-ghost use Rattle.circuit_spec.specs.Steps.{IsOutcome};
-ghost use Rattle.deriv_arena.specs.Derivation.{kept_weight, unfolding_of, IsOver};
-ghost use Rattle.finder_core.specs.Outcomes.{IsCheapestWalk, IsMachineOf, outcome_of};
-ghost use Rattle.finder_core.specs.Solved.{IsListed, IsRefusal};
+ghost use Rattle.knuth_search.specs.Settled.{ArePotentials};
+ghost use Rattle.answer_text.specs.Certificate.{Certificate};
+ghost use Rattle.answer_text.specs.Exact.{IsExactAnswer};
+ghost use Rattle.answer_text.specs.Ordered.{IsOrdered};
+ghost use Rattle.answer_text.specs.Spelling.{IsWellFormed};
+ghost use Rattle.machine_lift.specs.Lift.{IsMachineOf};
+ghost use Rattle.finder_core.specs.Outcomes.{IsTold};
+ghost use Rattle.finder_core.specs.Refusals.{IsRefusal};
 
 use crate::faults::SolveFault;
 use crate::known::check_known;
-use crate::listing::hops_of;
-use bumpalo::Bump;
-use circuit_spec::{HOP_LIMIT, HopList, Outcome, Request};
-use deriv_arena::Deriv;
+use crate::searching::{Searched, search_machine};
+use answer_text::{Answer, well_formed};
+use circuit_spec::Request;
+use domain_config::rules_of;
 use kept_table::kept_of;
-use knuth_search::search;
 use machine_build::{Built, build};
-use ml_base::{NoMemory, Weight};
+use ml_base::NoMemory;
 use nml_inventory::Inventory;
-use segment_grammar::Index;
+use potential_lift::potentials_of;
 use std::alloc::Global;
 
-/// The answer to a request: its outcome, and the hops of a cheapest walk where one is found.
-#[derive(Debug, Drop)]
-pub struct Solved {
-    pub outcome: Outcome,
-    pub hops: HopList,
-}
-
-/// The outcome where this is the least weight of a walk.
-fn outcome_of(weight: Weight) -> Outcome
-    ensures { result ≡ outcome_of weight }
-{
-    match weight {
-        Weight::Past => Outcome::Past,
-        Weight::Known { cost, hops } => {
-            if hops > HOP_LIMIT {
-                return Outcome::Long { cost, hops };
-            }
-            Outcome::Found { cost, hops }
-        }
-    }
-}
-
-/// The answer with this cheapest walk.
-fn answer(
-    alloc: Global,
-    inventory: &Inventory,
-    request: &Request,
-    built: &Built,
-    deriv: &Deriv<'_>,
-) -> Result<Solved, NoMemory>
-    requires built { IsMachineOf inventory.now request.now built.now }
-    requires over { IsOver built.now.machine.steps deriv.now }
-    requires cheapest { IsCheapestWalk inventory.now request.now built.now (kept_weight deriv.now) (unfolding_of deriv.now) }
-    ensures outcome { IfOk result (λ s. IsOutcome inventory.now request.now s.outcome) }
-    ensures hops { IfOk result (λ s. IsListed inventory.now request.now s.outcome s.hops) }
-{
-    match outcome_of(deriv.weight()) {
-        Outcome::Found { cost, hops } => {
-            let list = hops_of(alloc, inventory, request, built, deriv)?;
-            Ok(Solved {
-                outcome: Outcome::Found { cost, hops },
-                hops: list,
-            })
-        }
-        outcome => Ok(Solved {
-            outcome,
-            hops: HopList::new(alloc),
-        }),
-    }
-}
-
-/// The answer to a request over its machine.
-fn search_machine(
-    alloc: Global,
-    inventory: &Inventory,
-    request: &Request,
-    built: &Built,
-) -> Result<Solved, NoMemory>
+/// The machine of a known request.
+fn machine_of(alloc: Global, inventory: &Inventory, request: &Request) -> Result<Built, NoMemory>
     requires sound { IsSound inventory.now }
-    requires built { IsMachineOf inventory.now request.now built.now }
-    ensures outcome { IfOk result (λ s. IsOutcome inventory.now request.now s.outcome) }
-    ensures hops { IfOk result (λ s. IsListed inventory.now request.now s.outcome s.hops) }
+    requires known { IsKnown inventory.now request.now }
+    ensures { IfOk result (IsMachineOf inventory.now request.now) }
 {
-    let machine = built.machine();
-    let starts = built.starts();
-    let targets = built.targets();
-    let index = Index::new(alloc, machine)?;
-    let arena = Bump::new(alloc);
-    let settled = search(alloc, machine, &index, starts, &arena)?;
-    match settled.best(targets) {
-        Some(deriv) => answer(alloc, inventory, request, built, deriv),
-        None => Ok(Solved {
-            outcome: Outcome::NoWalk,
-            hops: HopList::new(alloc),
-        }),
+    let kept = kept_of(alloc, inventory, request)?;
+    build(alloc, inventory, &kept, request)
+}
+
+/// The answer of what the search has found.
+fn answer_of(
+    alloc: Global,
+    inventory: &Inventory,
+    request: &Request,
+    built: &Built,
+    searched: Searched,
+) -> Result<Answer, NoMemory>
+    requires known { IsKnown inventory.now request.now }
+    requires built { IsMachineOf inventory.now request.now built.now }
+    requires told { IsTold inventory.now request.now searched.told.outcome searched.told.walk.hops searched.told.walk.flags }
+    requires potentials { ArePotentials built.now.machine.steps built.now.starts searched.potentials }
+    ensures request { IfOk result (λ a. a.request ≡ request.now) }
+    ensures exact { IfOk result (IsExactAnswer inventory.now) }
+{
+    let told = searched.told;
+    let rules = rules_of(alloc, &told.walk.hops)?;
+    let potentials = potentials_of(alloc, built, &searched.potentials)?;
+    let request = request.share()?;
+    Ok(Answer {
+        request,
+        outcome: told.outcome,
+        hops: told.walk.hops,
+        flags: told.walk.flags,
+        rules,
+        potentials,
+    })
+}
+
+/// An answer whose parts stand in order has a document, since its ids are ids.
+fn know_formed(answer: &Answer)
+    requires { IsOrdered answer.now }
+    ensures { IsWellFormed answer.now }
+{
+    if well_formed(answer) {
+        return;
     }
+    unreachable!()
 }
 
 /// The answer to a known request.
-fn solve_known(alloc: Global, inventory: &Inventory, request: &Request) -> Result<Solved, NoMemory>
+fn solve_known(alloc: Global, inventory: &Inventory, request: &Request) -> Result<Answer, NoMemory>
     requires sound { IsSound inventory.now }
     requires known { IsKnown inventory.now request.now }
-    ensures outcome { IfOk result (λ s. IsOutcome inventory.now request.now s.outcome) }
-    ensures hops { IfOk result (λ s. IsListed inventory.now request.now s.outcome s.hops) }
+    ensures request { IfOk result (λ a. a.request ≡ request.now) }
+    ensures exact { IfOk result (IsExactAnswer inventory.now) }
+    ensures certified { IfOk result (Certificate inventory.now) }
+    ensures formed { IfOk result IsWellFormed }
 {
-    let kept = kept_of(alloc, inventory, request)?;
-    let built = build(alloc, inventory, &kept, request)?;
-    search_machine(alloc, inventory, request, &built)
+    let built = machine_of(alloc, inventory, request)?;
+    let searched = search_machine(alloc, inventory, request, &built)?;
+    let answer = answer_of(alloc, inventory, request, &built, searched)?;
+    know_formed(&answer);
+    Ok(answer)
 }
 
-/// Answers a request.
+/// Answers a request: the outcome, the hops of a cheapest walk with their flags and rules where one is found, and the potentials. The
+/// answer has its document and its certificate.
 ///
 /// # Errors
 ///
 /// `UnknownPort` where FROM or else TO is no port, `LabelNotHere` where the label that is stated at FROM or else at TO is not in the
 /// set of its port's class, and `NoMemory`.
-pub fn solve(alloc: Global, inventory: &Inventory, request: &Request) -> Result<Solved, SolveFault>
+pub fn solve(alloc: Global, inventory: &Inventory, request: &Request) -> Result<Answer, SolveFault>
     requires sound { IsSound inventory.now }
-    ensures outcome { IfOk result (λ s. IsOutcome inventory.now request.now s.outcome) }
-    ensures hops { IfOk result (λ s. IsListed inventory.now request.now s.outcome s.hops) }
-    ensures known { OnOk result (IsKnown inventory.now request.now) }
+    ensures request { IfOk result (λ a. a.request ≡ request.now) }
+    ensures exact { IfOk result (IsExactAnswer inventory.now) }
+    ensures certified { IfOk result (Certificate inventory.now) }
+    ensures formed { IfOk result IsWellFormed }
     ensures fault { IfErr result (IsRefusal inventory.now request.now) }
 {
     if let Err(fault) = check_known(inventory, request) {
         return Err(fault);
     }
-    let solved = solve_known(alloc, inventory, request)?;
-    Ok(solved)
+    let answer = solve_known(alloc, inventory, request)?;
+    Ok(answer)
 }

@@ -110,6 +110,13 @@ impl<'a> Settled<'a> {
         &self.potentials
     }
 
+    /// The least weight of each reached pair, without the derivations, whose arena may then be given up.
+    pub fn into_potentials(self) -> Potentials
+        ensures { (machine : MachineValue) (starts : List StateNo) → IsSettledOf machine starts self.entry → ArePotentials machine.steps starts result }
+    {
+        self.potentials
+    }
+
     /// A derivation of least weight of the pair, or None exactly where the pair is not reached. Takes logarithmic time.
     pub fn derivation(&self, root: Root, state: StateNo) -> Option<&'a Deriv<'a>>
         ensures some { IfSome result (λ d. (machine : MachineValue) (starts : List StateNo) → IsSettledOf machine starts self.now → IsCheapest machine.steps starts root state d.now) }

@@ -1,6 +1,6 @@
 use Rattle.std.proofs.Common.{Err, ◌∙◌, ap}
 use Rattle.deriv_arena.specs.Derivation.{kept_weight}
-use Rattle.finder_core.proofs.HopLists.{not_long}
+use Rattle.finder_core.proofs.Listings.{not_long}
 use Rattle.finder_core.proofs.listing.steps_of.Goals as goal
 
 pub unreachable-requires-in-Err-Long : goal.unreachable-requires-in-Err-Long

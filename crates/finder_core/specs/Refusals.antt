@@ -1,25 +1,12 @@
--- The answer to a request: its hops, and why it is refused.
-use Rattle.std.specs.Prelude.{◌≡◌, ℕ, List, [], Some, slice_get}
+-- Why a request is refused.
+use Rattle.std.specs.Prelude.{◌≡◌, ℕ, Some, slice_get}
 use Rattle.ml_base.specs.declared.numbers.Wish.{Wish}
 use Rattle.circuit_spec.specs.declared.faults.RequestFault.TheVariants as request_fault
-use Rattle.circuit_spec.specs.declared.hops.Hop.{Hop}
-use Rattle.circuit_spec.specs.declared.hops.Outcome.{Outcome}
-use Rattle.circuit_spec.specs.declared.hops.Outcome.TheVariants.{Found, NoWalk, Past, Long}
 use Rattle.circuit_spec.specs.declared.hops.Request.{Request}
 use Rattle.circuit_spec.specs.Network.{Name, Topology, Port, IsClass, ports}
-use Rattle.circuit_spec.specs.Steps.{Walk, weight_of}
 use Rattle.circuit_spec.specs.Requests.{IsMissedAt, IsPort, IsRequestFault}
 use Rattle.finder_core.specs.declared.faults.SolveFault.{SolveFault}
 use Rattle.finder_core.specs.declared.faults.SolveFault.TheVariants.{UnknownPort, LabelNotHere, NoMemory}
-
--- what is found is a walk of exactly this weight, and no hops are listed otherwise
-abbrev pub IsListed : Topology → Request → Outcome → List Hop → Type 0
-IsListed T r (Found cost hops) list = Walk T r list × (weight_of T list ≡ record { cost = cost; hops = hops })
-IsListed T r NoWalk list = list ≡ []
-IsListed T r Past list = list ≡ []
-IsListed T r (Long cost hops) list = list ≡ []
-
--- Refusals
 
 -- a request is refused with its fault, or memory ran out
 abbrev pub IsRefusal : Topology → Request → SolveFault → Type 0
