@@ -1,5 +1,5 @@
 -- The lines of the potentials of a machine are the potentials of its request.
-use Rattle.std.proofs.Common.{◌≡◌, ◌∙◌, sym, ap, subst, List, length, get_or, arith, Contains}
+use Rattle.std.proofs.Common.{◌≡◌, ◌∙◌, sym, ap, subst, ℕ, ◌+◌, ◌<◌, List, length, get_or, take, arith, Contains}
 use Rattle.std.specs.List.{All, AllByRecursion}
 use Rattle.std.proofs.lemmas.List.Elements.{All-contains_itself, All-weaker, recursion_from_All}
 use Rattle.std.proofs.lemmas.Option.{slice_get-get_or, slice_get_within}
@@ -28,9 +28,13 @@ use Rattle.machine_lift.specs.Lift.{AreLifted, IsMachineOf, IsRootAt}
 use Rattle.machine_lift.proofs.Lifted.{lifted, paired}
 use Rattle.machine_lift.proofs.States.{same_at}
 use Rattle.machine_lift.proofs.Weights.{least, reached_back}
-use Rattle.potential_lift.specs.Lines.{AreLinesOf, AreWithin, IsLineOf}
+use Rattle.potential_lift.specs.Lines.{AddsLine, AreLinesOf, AreWithin, IsLineOf}
 use Rattle.potential_lift.proofs.Below.{in_order, one_root}
-use Rattle.potential_lift.proofs.Zipped.{zip_first, zip_second}
+use Rattle.potential_lift.proofs.Zipped.{zip_first, zip_more, zip_second}
+
+-- the line of the next pair
+pub line_more : (b : BuiltValue) (pots : List Pot) (i : ℕ) (p : Pot) (old new : List PotLine) → i < length pots → AreLinesOf b (take i pots) old → AddsLine b (get_or pots i p) old new → AreLinesOf b (take (i + 1) pots) new
+line_more b pots i p old new low are adds = subst (AreLinesOf b (take (i + 1) pots)) (sym adds.added) (zip_more (IsLineOf b) pots i p old adds.line low are adds.is_line)
 
 short : (full : FullWeight) (w : Weight) → cap full ≡ w → IsShort w
 short full (Known cost hops) e = let k = cap_known full cost hops e in omega (arith, k.2)

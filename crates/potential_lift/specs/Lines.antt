@@ -1,5 +1,5 @@
 -- Lines of the pairs of a machine.
-use Rattle.std.specs.Prelude.{◌≡◌, List, length}
+use Rattle.std.specs.Prelude.{◌≡◌, ◌++◌, ◌∷◌, [], List, length}
 use Rattle.std.specs.List.{All, AllZip}
 use Rattle.segment_grammar.specs.declared.potentials.Pot.{Pot}
 use Rattle.answer_text.specs.declared.answer.PotLine.{PotLine}
@@ -17,6 +17,12 @@ pub record IsLineOf (b : BuiltValue) (p : Pot) (line : PotLine) : Type 0 where
   pub root : IsRootAt b p.root (root_place line.root)
   pub place : IsState b p.state line.place
   pub weight : line.weight ≡ p.weight
+
+-- the lines have one more, that of the pair
+pub record AddsLine (b : BuiltValue) (p : Pot) (old new : List PotLine) : Type 0 where
+  pub line : PotLine
+  pub is_line : IsLineOf b p line
+  pub added : new ≡ old ++ line ∷ []
 
 -- a line for each pair, in the same order
 abbrev pub AreLinesOf : BuiltValue → List Pot → List PotLine → Type 0

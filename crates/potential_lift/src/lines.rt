@@ -5,7 +5,7 @@ ghost use Rattle.answer_text.specs.Potentials.{ArePotentials, root_place};
 ghost use Rattle.knuth_search.specs.Derived.{IsPotWithin, IsRootWithin};
 ghost use Rattle.knuth_search.specs.Settled.{ArePotentials as AreMachinePotentials};
 ghost use Rattle.machine_lift.specs.Lift.{IsMachineOf, IsRootAt};
-ghost use Rattle.potential_lift.specs.Lines.{AreLinesOf, AreWithin, IsLineOf};
+ghost use Rattle.potential_lift.specs.Lines.{AddsLine, AreLinesOf, AreWithin};
 
 use answer_text::{PotLine, PotList, RootName};
 use machine_build::Built;
@@ -27,18 +27,19 @@ fn root_of(built: &Built, root: Root) -> Result<RootName, NoMemory>
     }
 }
 
-/// The line of a pair of the machine.
-fn line_of(built: &Built, pot: &Pot) -> Result<PotLine, NoMemory>
+/// Adds the line of a pair of the machine.
+fn add_line(built: &Built, lines: &mut PotList, pot: &Pot) -> Result<(), NoMemory>
     requires { IsPotWithin (length built.now.places) pot.now }
-    ensures { IfOk result (IsLineOf built.now pot.now) }
+    ensures { IfOk result (λ _. AddsLine built.now pot.now lines.old lines.new) }
 {
     let root = root_of(built, pot.root)?;
     let place = built.place(pot.state)?;
-    Ok(PotLine {
+    lines.push(PotLine {
         root,
         place,
         weight: pot.weight,
-    })
+    })?;
+    Ok(())
 }
 
 /// A line for each pair, in the same order.
@@ -48,8 +49,7 @@ fn lines_of(alloc: Global, built: &Built, pots: &[Pot]) -> Result<PotList, NoMem
 {
     let mut lines = PotList::new(alloc);
     for pot in pots {
-        let line = line_of(built, pot)?;
-        lines.push(line)?;
+        add_line(built, &mut lines, pot)?;
     }
     Ok(lines)
 }
