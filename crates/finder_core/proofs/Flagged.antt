@@ -7,7 +7,6 @@ use Rattle.std.specs.Str.{bytes_eq}
 use Rattle.std.proofs.lemmas.Bool.{cases_eq, eq-eqb, eqb-true, ne_eqb}
 use Rattle.std.proofs.lemmas.Iterator.Adapters.{position_from-zero}
 use Rattle.std.proofs.lemmas.Slice.Eq.{bytes_eq-Decides}
-use Rattle.ml_base.specs.declared.numbers.StateNo.{StateNo}
 use Rattle.adapt_machine.specs.declared.MachineKind.{MachineKind}
 use Rattle.adapt_machine.specs.declared.MachineKind.TheVariants.{Flat, Push, Pop}
 use Rattle.adapt_machine.specs.declared.MachineStep.{MachineStep}
@@ -16,13 +15,13 @@ use Rattle.circuit_spec.specs.declared.hops.Hop.{Hop}
 use Rattle.circuit_spec.specs.declared.hops.PlaceName.{PlaceName}
 use Rattle.circuit_spec.specs.declared.hops.Request.{Request}
 use Rattle.circuit_spec.specs.Faults.{IsKnown}
-use Rattle.circuit_spec.specs.Flags.{Enters, AreFlags, flags_after, same_place, same_tag}
-use Rattle.circuit_spec.specs.Network.{Name, Tag, Topology, Port, IsClass, Linked, ports}
+use Rattle.circuit_spec.specs.Flags.{Enters, flags_after, same_place, same_tag}
+use Rattle.circuit_spec.specs.Network.{Name, Tag, Topology, Port, Linked, ports}
 use Rattle.circuit_spec.specs.Segments.{unit_in}
 use Rattle.circuit_spec.specs.Steps.{Ends, Joins, Step, Walk}
 use Rattle.circuit_spec.proofs.ClassLemmas.{First-unique}
 use Rattle.open_places.specs.Places.{IsRising}
-use Rattle.machine_build.specs.Built.{BuiltValue, IsBuilt, IsDoneBy, IsHopAt, IsState, MovesBy}
+use Rattle.machine_build.specs.Built.{BuiltValue, IsHopAt, MovesBy}
 use Rattle.machine_lift.specs.Lift.{AreHopsAt, IsMachineOf}
 use Rattle.machine_lift.proofs.States.{one_number, same_at}
 use Rattle.answer_text.specs.Arriving.{start_of}

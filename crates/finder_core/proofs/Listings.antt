@@ -1,9 +1,7 @@
 -- The hops of steps and their flags, one after another.
-use Rattle.std.proofs.Common.{◌≡◌, ℕ, suc, ◌<◌, List, [], ◌∷◌, ◌++◌, Option, None, Some, length, nat_eq, replicate, refl, sym, ◌∙◌, ap, subst, arith, add-one, append-nil, append_assoc}
-use Rattle.std.specs.Iterator.{YieldsFirstBy}
+use Rattle.std.proofs.Common.{◌≡◌, ℕ, suc, ◌<◌, List, [], ◌∷◌, ◌++◌, Option, None, length, nat_eq, replicate, refl, sym, ◌∙◌, ap, subst, arith, add-one, append-nil, append_assoc}
 use Rattle.std.specs.List.{AllByRecursion, position}
 use Rattle.std.proofs.lemmas.List.{length-append, length-map, map-append}
-use Rattle.ml_base.specs.declared.numbers.StepNo.{StepNo}
 use Rattle.ml_base.specs.declared.weight.Weight.{Weight}
 use Rattle.ml_base.specs.declared.weight.Weight.TheVariants as weight
 use Rattle.circuit_spec.specs.declared.hops.Hop.{Hop}

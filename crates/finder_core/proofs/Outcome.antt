@@ -8,13 +8,11 @@ use Rattle.ml_base.specs.declared.numbers.StateNo.{StateNo}
 use Rattle.ml_base.specs.declared.numbers.Root.TheVariants as root
 use Rattle.ml_base.specs.declared.weight.Weight.{Weight}
 use Rattle.ml_base.specs.declared.weight.Weight.TheVariants as weight
-use Rattle.adapt_machine.specs.Machine.{MachineValue}
 use Rattle.adapt_machine.specs.Walks.{full_weight_of}
 use Rattle.segment_grammar.specs.Reached.{IsReached, IsSegmentUnder}
 use Rattle.deriv_arena.specs.declared.Deriv.{Deriv}
 use Rattle.deriv_arena.specs.Derivation.{kept_weight, unfolding_of}
-use Rattle.segment_grammar.specs.declared.potentials.Pot.{Pot}
-use Rattle.knuth_search.specs.Settled.{ArePotentials, IsBest}
+use Rattle.knuth_search.specs.Settled.{IsBest}
 use Rattle.circuit_spec.specs.declared.hops.Hop.{Hop}
 use Rattle.circuit_spec.specs.declared.hops.Outcome.{Outcome}
 use Rattle.circuit_spec.specs.declared.hops.Outcome.TheVariants.{Found, NoWalk, Past, Long}
@@ -99,22 +97,6 @@ module _ (T : Topology) (r : Request) (b : BuiltValue) (sound : IsSound T) (is :
       let at = (lift.starts.only state c).1 in
       let below : state.0 < length b.places = slice_get_within b.places state.0 (lift.starts.only state c).0 at in
       omega (arith, below, is.built.states)
-
--- What is said of the parts of a machine
-
-pub best_of : (b : BuiltValue) (m : MachineValue) (starts targets : List StateNo) (d : Deriv) → m ≡ b.machine → starts ≡ b.starts → targets ≡ b.targets → IsBest m.steps starts targets d → IsBest b.machine.steps b.starts b.targets d
-best_of b m starts targets d e f g best =
-    subst (λ (x : MachineValue). IsBest x.steps b.starts b.targets d) e (subst (λ x. IsBest m.steps x b.targets d) f (subst (λ x. IsBest m.steps starts x d) g best))
-
--- no target is reached
-abbrev pub NoneReached : MachineValue → List StateNo → List StateNo → Type 0
-NoneReached m starts targets = (target : StateNo) → Contains targets target → IsReached m.steps starts root.Request target → ⊥
-
-pub none_reached : (b : BuiltValue) (m : MachineValue) (starts targets : List StateNo) → m ≡ b.machine → starts ≡ b.starts → targets ≡ b.targets → NoneReached m starts targets → NoneReached b.machine b.starts b.targets
-none_reached b m starts targets e f g none = subst (λ x. NoneReached x b.starts b.targets) e (subst (λ x. NoneReached m x b.targets) f (subst (λ x. NoneReached m starts x) g none))
-
-pub potentials_for : (b : BuiltValue) (m : MachineValue) (starts : List StateNo) (pots : List Pot) → m ≡ b.machine → starts ≡ b.starts → ArePotentials m.steps starts pots → ArePotentials b.machine.steps b.starts pots
-potentials_for b m starts pots e f are = subst (λ (x : MachineValue). ArePotentials x.steps b.starts pots) e (subst (λ x. ArePotentials m.steps x pots) f are)
 
 -- What is listed
 

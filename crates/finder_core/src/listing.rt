@@ -17,7 +17,7 @@ use route_unfold::{Unfold, UnfoldFault};
 use std::alloc::Global;
 
 /// A walk as an answer lists it: its hops, and a flag for each.
-#[derive(Debug, Drop)]
+#[derive(Drop)]
 pub struct Listed {
     pub hops: HopList,
     pub flags: FlagList,

@@ -1,7 +1,9 @@
-ghost use Rattle.std.specs.Prelude.{◌≡◌, [], IfOk};
+ghost use Rattle.std.specs.Prelude.{◌≡◌, ◌<◌, [], IfOk};
+ghost use Rattle.std.specs.List.{Contains};
+ghost use Rattle.ml_base.specs.declared.numbers.StateNo.{StateNo};
 ghost use Rattle.circuit_spec.specs.Faults.{IsKnown, IsSound};
 ghost use Rattle.deriv_arena.specs.Derivation.{kept_weight, unfolding_of, IsOver};
-ghost use Rattle.knuth_search.specs.Settled.{ArePotentials};
+ghost use Rattle.knuth_search.specs.Settled.{ArePotentials, IsSettledOf};
 ghost use Rattle.machine_lift.specs.Lift.{IsMachineOf};
 ghost use Rattle.finder_core.specs.Outcomes.{IsCheapestWalk, IsTold, outcome_of};
 
@@ -10,7 +12,7 @@ use answer_text::FlagList;
 use bumpalo::Bump;
 use circuit_spec::{HOP_LIMIT, HopList, Outcome, Request};
 use deriv_arena::Deriv;
-use knuth_search::search;
+use knuth_search::{Settled, search};
 use machine_build::Built;
 use ml_base::{NoMemory, Weight};
 use nml_inventory::Inventory;
@@ -18,14 +20,14 @@ use segment_grammar::{Index, Potentials};
 use std::alloc::Global;
 
 /// The outcome of a request, and a cheapest walk where it is found.
-#[derive(Debug, Drop)]
+#[derive(Drop)]
 pub struct Told {
     pub outcome: Outcome,
     pub walk: Listed,
 }
 
 /// What a search of the machine of a request finds.
-#[derive(Debug, Drop)]
+#[derive(Drop)]
 pub struct Searched {
     pub told: Told,
     pub potentials: Potentials,
@@ -87,7 +89,18 @@ fn tell(
     }
 }
 
-/// Searches the machine of a request. The index, and the arena with all derivations, are given up at the end.
+/// The cheapest segments of a machine. Their derivations lie in the arena; the index is given up.
+fn segments_of<'a>(alloc: Global, built: &Built, arena: &'a Bump) -> Result<Settled<'a>, NoMemory>
+    requires { (a : StateNo) → Contains built.now.starts a → a.0 < built.now.machine.states }
+    ensures { IfOk result (IsSettledOf built.now.machine built.now.starts) }
+{
+    let machine = built.machine();
+    let starts = built.starts();
+    let index = Index::new(alloc, machine)?;
+    search(alloc, machine, &index, starts, arena)
+}
+
+/// Searches the machine of a request. The arena with all derivations is given up.
 pub fn search_machine(
     alloc: Global,
     inventory: &Inventory,
@@ -100,12 +113,9 @@ pub fn search_machine(
     ensures told { IfOk result (λ s. IsTold inventory.now request.now s.told.outcome s.told.walk.hops s.told.walk.flags) }
     ensures potentials { IfOk result (λ s. ArePotentials built.now.machine.steps built.now.starts s.potentials) }
 {
-    let machine = built.machine();
-    let starts = built.starts();
     let targets = built.targets();
-    let index = Index::new(alloc, machine)?;
     let arena = Bump::new(alloc);
-    let settled = search(alloc, machine, &index, starts, &arena)?;
+    let settled = segments_of(alloc, built, &arena)?;
     let Some(deriv) = settled.best(targets) else {
         return Ok(Searched {
             told: unlisted(alloc, Outcome::NoWalk),

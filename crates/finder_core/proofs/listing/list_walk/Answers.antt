@@ -1,6 +1,6 @@
 use Rattle.std.proofs.Common.{length, sym, ◌∙◌}
 use Rattle.deriv_arena.specs.Derivation.{unfolding_of}
-use Rattle.finder_core.proofs.Listings.{first_within, listing_ended, listing_first, listing_room, listing_turn, listing_within}
+use Rattle.finder_core.proofs.Listings.{listing_ended, listing_first, listing_room, listing_turn, listing_within}
 use Rattle.finder_core.proofs.listing.list_walk.Goals as goal
 
 pub loop-step-init : goal.loop-step-init
