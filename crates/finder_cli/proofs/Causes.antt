@@ -1,5 +1,5 @@
 -- The causes of the statuses 2, 3, 5 and 11.
-use Rattle.std.proofs.Common.{◌≡◌, ◌≢◌, ◌∙◌, ◌↔◌, sym, refl, ap, subst, ℕ, List, [], ◌∷◌, ◌++◌, Option, Some, None, IsSome, ◌⊎◌, inl, inr, arith, append_assoc}
+use Rattle.std.proofs.Common.{◌≡◌, ◌≢◌, ◌∙◌, ◌↔◌, sym, refl, ap, subst, ℕ, Bool, List, [], ◌∷◌, ◌++◌, Option, Some, None, IsSome, ◌⊎◌, inl, inr, arith, append_assoc}
 use Rattle.std.specs.Prelude.{Contains}
 use Rattle.std.proofs.lemmas.Bool.{false≢true}
 use Rattle.std.proofs.lemmas.List.Elements.{Contains-append_left, Contains-push}
@@ -65,15 +65,15 @@ outcome-late NoWalk n e = late-of n (inr (inl e))
 outcome-late Past n e = late-of n (inr (inr (inr (inl e))))
 outcome-late (Long cost hops) n e = late-of n (inr (inr (inr (inr e))))
 
-found-late : (r : Request) (T : Topology) (a : Reply) → IsFound r T a → IsLate (code_of a)
-found-late r T a (inl p) = late-of (code_of a) (inr (inr (inl (ap code_of p.is))))
-found-late r T a (inr p) = outcome-late p.outcome (code_of a) (ap code_of p.is)
+found-late : (r : Request) (potentials : Bool) (T : Topology) (a : Reply) → IsFound r potentials T a → IsLate (code_of a)
+found-late r potentials T a (inl p) = late-of (code_of a) (inr (inr (inl (ap code_of p.is))))
+found-late r potentials T a (inr p) = outcome-late p.answer.outcome (code_of a) (ap code_of p.is)
 
 survey-late : (T : Topology) (a : Reply) → IsSurvey T a → IsLate (code_of a)
 survey-late T a p = late-of (code_of a) (inl (ap code_of p.is))
 
 replies-late : (command : Command) (T : Topology) (a : Reply) → Replies command T a → IsLate (code_of a)
-replies-late (Find request files potentials) T a p = found-late request T a p
+replies-late (Find request files potentials) T a p = found-late request potentials T a p
 replies-late (Survey files) T a p = survey-late T a p
 
 -- ---- 2

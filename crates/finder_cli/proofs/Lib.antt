@@ -6,6 +6,7 @@ pub mod Spots
 pub mod Few
 pub mod Passing
 pub mod Settled
+pub mod Shown
 pub mod Sentences
 pub mod Circuits
 pub mod Causes

@@ -1,5 +1,5 @@
 -- The sentences on a run follow from what the words may be answered.
-use Rattle.std.proofs.Common.{◌≡◌, ◌≢◌, ◌∙◌, ◌↔◌, refl, ap, subst, ℕ, List, Option, Some, None, IsSome, inl, inr, arith}
+use Rattle.std.proofs.Common.{◌≡◌, ◌≢◌, ◌∙◌, ◌↔◌, refl, ap, subst, ℕ, Bool, List, Option, Some, None, IsSome, inl, inr, arith}
 use Rattle.std.proofs.lemmas.Bool.{false≢true}
 use Rattle.io_edges.specs.Counts.{Rose}
 use Rattle.io_edges.specs.Reads.{Store, Contents}
@@ -16,13 +16,13 @@ use Rattle.finder_cli.specs.declared.words.Command.{Command}
 use Rattle.finder_cli.specs.declared.words.Command.TheVariants.{Find}
 use Rattle.finder_cli.specs.Accepting.{IfAccepted}
 use Rattle.finder_cli.specs.Answers.{CommandAnswers, Answers}
-use Rattle.finder_cli.specs.Finding.{IsFound}
+use Rattle.finder_cli.specs.Finding.{IsAnswered, IsFound}
 use Rattle.finder_cli.specs.Reading.{file_words}
 use Rattle.finder_cli.specs.Sentences.{Tells, Ran, Asks, AsksAccepted, AsksKnown, FindsNone, FindsPast, FindsLong, FindsUnknown}
 use Rattle.finder_cli.specs.Status.{code, status_of}
 use Rattle.finder_cli.specs.Words.{Words}
 use Rattle.finder_cli.proofs.Passing.{over-domains}
-use Rattle.finder_cli.proofs.Settled.{rejected-apart, refusal-apart}
+use Rattle.finder_cli.proofs.Settled.{answered-known, answered-outcome, rejected-apart, refusal-apart}
 
 abbrev Told : Type 0
 Told = List ℕ → Option (List ℕ)
@@ -35,21 +35,29 @@ pub record IsDone (words : Words) (before after : Store) (status : ℕ) (reply :
 -- ---- the reply to a search over domains of told files
 
 told-found : (contents : Contents) (before after : Store) (words : Words) (r : Request) (T : Topology) (reply : Reply) → before.contents ≡ contents → IsSome contents → ¬ Rose before.faults after.faults
-    → Asks words before r T → Answers words before after reply → IfAccepted (IsFound r) T reply
+    → (asks : Asks words before r T) → Answers words before after reply → IfAccepted (IsFound r asks.potentials) T reply
 told-found None before after words r T reply e told calm asks may = absurd (false≢true told)
 told-found (Some contents) before after words r T reply e told calm asks may =
     let found : CommandAnswers (Some (Find r asks.names asks.potentials)) before after reply = subst (λ (c : Option Command). CommandAnswers c before after reply) asks.command may in
-    over-domains before after contents (file_words 1 asks.names) (IfAccepted (IsFound r)) T reply e calm asks.domains found
+    over-domains before after contents (file_words 1 asks.names) (IfAccepted (IsFound r asks.potentials)) T reply e calm asks.domains found
 
-pub asked : (before after : Store) (words : Words) (r : Request) (T : Topology) (reply : Reply) → Tells before after → Asks words before r T → Answers words before after reply → IfAccepted (IsFound r) T reply
+pub asked : (before after : Store) (words : Words) (r : Request) (T : Topology) (reply : Reply) → Tells before after → (asks : Asks words before r T) → Answers words before after reply → IfAccepted (IsFound r asks.potentials) T reply
 asked before after words r T reply tells asks may = told-found before.contents before after words r T reply refl tells.0 tells.1 asks may
 
-after-accepted : (r : Request) (T : Topology) (reply : Reply) → IsAccepted T → IfAccepted (IsFound r) T reply → IsFound r T reply
-after-accepted r T reply accepted (inl p) = absurd (rejected-apart T reply p accepted)
-after-accepted r T reply accepted (inr p) = p.1
+after-accepted : (r : Request) (potentials : Bool) (T : Topology) (reply : Reply) → IsAccepted T → IfAccepted (IsFound r potentials) T reply → IsFound r potentials T reply
+after-accepted r potentials T reply accepted (inl p) = absurd (rejected-apart T reply p accepted)
+after-accepted r potentials T reply accepted (inr p) = p.1
 
-pub found-in : (before after : Store) (words : Words) (r : Request) (T : Topology) (reply : Reply) → Tells before after → AsksAccepted words before r T → Answers words before after reply → IsFound r T reply
-found-in before after words r T reply tells asks may = after-accepted r T reply asks.accepted (asked before after words r T reply tells asks.asks may)
+pub found-in : (before after : Store) (words : Words) (r : Request) (T : Topology) (reply : Reply) → Tells before after → (asks : AsksAccepted words before r T) → Answers words before after reply → IsFound r asks.asks.potentials T reply
+found-in before after words r T reply tells asks may = after-accepted r asks.asks.potentials T reply asks.accepted (asked before after words r T reply tells asks.asks may)
+
+-- the reply to a known request is an answer
+answer-of : (T : Topology) (r : Request) (potentials : Bool) (reply : Reply) → IsKnown T r → IsFound r potentials T reply → IsAnswered T r potentials reply
+answer-of T r potentials reply known (inl p) = absurd (refusal-apart T r p.fault p.told p.cause known)
+answer-of T r potentials reply known (inr p) = p
+
+pub answer-in : (before after : Store) (words : Words) (r : Request) (T : Topology) (reply : Reply) → Tells before after → (asks : AsksKnown words before r T) → Answers words before after reply → IsAnswered T r asks.asks.asks.potentials reply
+answer-in before after words r T reply tells asks may = answer-of T r asks.asks.asks.potentials reply asks.known (found-in before after words r T reply tells asks.asks may)
 
 -- the outcome that a reply to a known request tells
 pub record Outcomes (T : Topology) (r : Request) (status : ℕ) : Type 0 where
@@ -57,12 +65,11 @@ pub record Outcomes (T : Topology) (r : Request) (status : ℕ) : Type 0 where
   pub is : IsOutcome T r outcome
   pub told : status ≡ code (status_of outcome)
 
-answered-outcome : (T : Topology) (r : Request) (status : ℕ) (reply : Reply) → status ≡ code reply.status → IsKnown T r → IsFound r T reply → Outcomes T r status
-answered-outcome T r status reply e known (inl p) = absurd (refusal-apart T r p.fault p.told p.cause known)
-answered-outcome T r status reply e known (inr p) = record { outcome = p.outcome; is = p.is_outcome; told = e ∙ ap (λ (a : Reply). code a.status) p.is }
+told-outcome : (T : Topology) (r : Request) (potentials : Bool) (status : ℕ) (reply : Reply) → status ≡ code reply.status → IsAnswered T r potentials reply → Outcomes T r status
+told-outcome T r potentials status reply e p = record { outcome = p.answer.outcome; is = answered-outcome T r potentials reply p; told = e ∙ ap (λ (a : Reply). code a.status) p.is }
 
 pub outcomes : (before after : Store) (words : Words) (r : Request) (T : Topology) (status : ℕ) (reply : Reply) → Tells before after → AsksKnown words before r T → IsDone words before after status reply → Outcomes T r status
-outcomes before after words r T status reply tells asks done = answered-outcome T r status reply done.code asks.known (found-in before after words r T reply tells asks.asks done.may)
+outcomes before after words r T status reply tells asks done = told-outcome T r asks.asks.asks.potentials status reply done.code (answer-in before after words r T reply tells asks done.may)
 
 -- ---- 1, 7 and 8
 
@@ -110,9 +117,9 @@ outcome-known (Long cost hops) status e = λ four. absurd (omega arith)
 abbrev code_of : Reply → ℕ
 code_of a = code a.status
 
-unknown-exact : (T : Topology) (r : Request) (status : ℕ) (reply : Reply) → status ≡ code reply.status → IsFound r T reply → (status ≡ 4) ↔ (¬ IsKnown T r)
-unknown-exact T r status reply e (inl p) = (λ four known. refusal-apart T r p.fault p.told p.cause known, λ unknown. e ∙ ap code_of p.is)
-unknown-exact T r status reply e (inr p) = (λ four. absurd (outcome-known p.outcome status (e ∙ ap code_of p.is) four), λ unknown. absurd (unknown p.known))
+unknown-exact : (T : Topology) (r : Request) (potentials : Bool) (status : ℕ) (reply : Reply) → status ≡ code reply.status → IsFound r potentials T reply → (status ≡ 4) ↔ (¬ IsKnown T r)
+unknown-exact T r potentials status reply e (inl p) = (λ four known. refusal-apart T r p.fault p.told p.cause known, λ unknown. e ∙ ap code_of p.is)
+unknown-exact T r potentials status reply e (inr p) = (λ four. absurd (outcome-known p.answer.outcome status (e ∙ ap code_of p.is) four), λ unknown. absurd (unknown (answered-known T r potentials reply p)))
 
 pub says-unknown : (words : Words) (before after : Store) (status : ℕ) (reply : Reply) → (Ran status → IsDone words before after status reply) → FindsUnknown words before after status
-says-unknown words before after status reply done = λ ran tells r T asks. unknown-exact T r status reply (done ran).code (found-in before after words r T reply tells asks (done ran).may)
+says-unknown words before after status reply done = λ ran tells r T asks. unknown-exact T r asks.asks.potentials status reply (done ran).code (found-in before after words r T reply tells asks (done ran).may)

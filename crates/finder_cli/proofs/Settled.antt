@@ -1,5 +1,5 @@
 -- Over told contents, where reading has not failed, all replies that may be have one status.
-use Rattle.std.proofs.Common.{ℕ, ◌≡◌, ◌≢◌, ◌∙◌, sym, refl, ap, subst, List, [], ◌∷◌, Option, Some, None, IsSome, ◌⊎◌, inl, inr}
+use Rattle.std.proofs.Common.{ℕ, ◌≡◌, ◌≢◌, ◌∙◌, sym, refl, ap, subst, Bool, List, [], ◌∷◌, Option, Some, None, IsSome, ◌⊎◌, inl, inr}
 use Rattle.std.proofs.lemmas.Bool.{false≢true}
 use Rattle.io_edges.specs.Counts.{Rose}
 use Rattle.io_edges.specs.Reads.{Store, Contents}
@@ -7,11 +7,12 @@ use Rattle.circuit_spec.specs.declared.faults.MergeFault.{MergeFault}
 use Rattle.circuit_spec.specs.declared.hops.Request.{Request}
 use Rattle.circuit_spec.specs.Faults.{IsAccepted, IsKnown, merge_faults}
 use Rattle.circuit_spec.specs.Network.{Topology}
+use Rattle.circuit_spec.specs.Steps.{IsOutcome}
 use Rattle.circuit_spec.proofs.OneFault.{sound_has_none}
 use Rattle.circuit_spec.proofs.OneOutcome.{one_outcome}
 use Rattle.circuit_spec.proofs.OneRequestFault.{known_has_none}
 use Rattle.circuit_spec.specs.declared.faults.RequestFault.TheVariants as refusal
-use Rattle.finder_core.specs.Solved.{IsRefusal}
+use Rattle.finder_core.specs.Refusals.{IsRefusal}
 use Rattle.finder_core.specs.declared.faults.SolveFault.{SolveFault}
 use Rattle.finder_core.specs.declared.faults.SolveFault.TheVariants as solving
 use Rattle.finder_cli.specs.declared.reply.Reply.{Reply}
@@ -19,7 +20,7 @@ use Rattle.finder_cli.specs.declared.words.Command.{Command}
 use Rattle.finder_cli.specs.declared.words.Command.TheVariants.{Find, Survey}
 use Rattle.finder_cli.specs.Accepting.{IsRejected, IfAccepted}
 use Rattle.finder_cli.specs.Answers.{files_named, Replies, CommandAnswers, Answers}
-use Rattle.finder_cli.specs.Finding.{IsFound}
+use Rattle.finder_cli.specs.Finding.{IsAnswered, IsFound}
 use Rattle.finder_cli.specs.Status.{status_of}
 use Rattle.finder_cli.specs.Surveying.{IsSurvey}
 use Rattle.finder_cli.specs.Words.{Words, command_of}
@@ -53,13 +54,22 @@ refusal-apart T r (solving.UnknownPort id) told p known = known_has_none T r (re
 refusal-apart T r (solving.LabelNotHere id label) told p known = known_has_none T r (refusal.LabelNotHere id label) known p
 refusal-apart T r solving.NoMemory told p known = told refl
 
+-- ---- answers
+
+pub answered-known : (T : Topology) (r : Request) (potentials : Bool) (a : Reply) → IsAnswered T r potentials a → IsKnown T r
+answered-known T r potentials a p = subst (λ (s : Request). IsKnown T s) p.request p.exact.known
+
+pub answered-outcome : (T : Topology) (r : Request) (potentials : Bool) (a : Reply) (p : IsAnswered T r potentials a) → IsOutcome T r p.answer.outcome
+answered-outcome T r potentials a p = subst (λ (s : Request). IsOutcome T s p.answer.outcome) p.request p.exact.outcome
+
 -- ---- the commands
 
-found-one : (r : Request) (T : Topology) (a b : Reply) → IsFound r T a → IsFound r T b → SameStatus a b
-found-one r T a b (inl p) (inl q) = by-lines a b _ _ p.is q.is refl
-found-one r T a b (inl p) (inr q) = absurd (refusal-apart T r p.fault p.told p.cause q.known)
-found-one r T a b (inr p) (inl q) = absurd (refusal-apart T r q.fault q.told q.cause p.known)
-found-one r T a b (inr p) (inr q) = by-lines a b _ _ p.is q.is (ap status_of (one_outcome T r p.outcome q.outcome p.is_outcome q.is_outcome))
+found-one : (r : Request) (potentials : Bool) (T : Topology) (a b : Reply) → IsFound r potentials T a → IsFound r potentials T b → SameStatus a b
+found-one r potentials T a b (inl p) (inl q) = by-lines a b _ _ p.is q.is refl
+found-one r potentials T a b (inl p) (inr q) = absurd (refusal-apart T r p.fault p.told p.cause (answered-known T r potentials b q))
+found-one r potentials T a b (inr p) (inl q) = absurd (refusal-apart T r q.fault q.told q.cause (answered-known T r potentials a p))
+found-one r potentials T a b (inr p) (inr q) =
+    by-lines a b _ _ p.is q.is (ap status_of (one_outcome T r p.answer.outcome q.answer.outcome (answered-outcome T r potentials a p) (answered-outcome T r potentials b q)))
 
 survey-one : (T : Topology) (a b : Reply) → IsSurvey T a → IsSurvey T b → SameStatus a b
 survey-one T a b p q = by-lines a b _ _ p.is q.is refl
@@ -68,7 +78,7 @@ abbrev Told : Type 0
 Told = List ℕ → Option (List ℕ)
 
 replies-one : (command : Command) (T : Topology) (a b : Reply) → Replies command T a → Replies command T b → SameStatus a b
-replies-one (Find request files potentials) T a b p q = found-one request T a b p q
+replies-one (Find request files potentials) T a b p q = found-one request potentials T a b p q
 replies-one (Survey files) T a b p q = survey-one T a b p q
 
 command-one : (command : Option Command) (before after : Store) (told : Told) (a b : Reply) → before.contents ≡ Some told → ¬ Rose before.faults after.faults

@@ -25,7 +25,7 @@ files_named (Survey files) = file_words 1 files
 
 -- the replies of a command over an accepted topology
 abbrev pub Replies : Command → Topology → Reply → Type 0
-Replies (Find request files potentials) T reply = IsFound request T reply
+Replies (Find request files potentials) T reply = IsFound request potentials T reply
 Replies (Survey files) T reply = IsSurvey T reply
 
 -- how a command may be answered, in a run that found the store as before and left it as after

@@ -2,6 +2,7 @@
 --   Tells            the premise: contents are told, and reading has not failed
 --   Ran              the premise: no write failed, and memory did not run out
 --   Asks             the words ask for a circuit of a request over these domains
+--   PrintsAnswer     what stands in the text of a search of a known request
 --   PrintsCircuit    what stands in the text after status 0
 use Rattle.std.specs.Prelude.{◌≡◌, ◌≢◌, ◌↔◌, ◌⊎◌, ℕ, List, Bool, Option, None, Some, IsSome, IfSome, ◌<◌, Contains, ◌++◌}
 use Rattle.std.specs.Io.KnownBytes.{Appends}
@@ -18,14 +19,19 @@ use Rattle.circuit_spec.specs.Laws.{AdaptationsMatch}
 use Rattle.circuit_spec.specs.Network.{Topology}
 use Rattle.circuit_spec.specs.Steps.{Circuit, IsOutcome, Walk, weight_of}
 use Rattle.domain_config.specs.Lines.{text_of}
+use Rattle.domain_config.specs.Numbering.{AreRulesOf}
 use Rattle.answer_text.specs.declared.answer.Answer.{Answer}
+use Rattle.answer_text.specs.Certificate.{AreFlagged, Certificate}
+use Rattle.answer_text.specs.Exact.{IsExactAnswer}
 use Rattle.answer_text.specs.Spelling.{IsWellFormed, lines_of}
 use Rattle.nml_inventory.specs.Relations.{IsClassCount}
 use Rattle.finder_cli.specs.declared.reading.FileWord.{FileWord}
 use Rattle.finder_cli.specs.declared.words.Command.{Command}
 use Rattle.finder_cli.specs.declared.words.Command.TheVariants.{Find, Survey}
 use Rattle.finder_cli.specs.Answers.{files_named}
+use Rattle.finder_cli.specs.Finding.{shown}
 use Rattle.finder_cli.specs.Reading.{AreDomains, IsDomain, IsLastRead, IsRead, file_words}
+use Rattle.finder_cli.specs.Status.{code, status_of}
 use Rattle.finder_cli.specs.Surveying.{counts, heading}
 use Rattle.finder_cli.specs.Through.{Each}
 use Rattle.finder_cli.specs.Words.{Word, Words, command_of}
@@ -57,25 +63,48 @@ pub record AsksKnown (words : Words) (before : Store) (r : Request) (T : Topolog
   pub asks : AsksAccepted words before r T
   pub known : IsKnown T r
 
--- ---- what is printed after status 0
+-- ---- what is printed
 
--- The text is the document of one answer alone. Its request is this; its hops are a circuit of the topology, for every stack that
--- the unit already has; each adaptation is undone by its match; the stated weight is that of the hops; and no walk of any length
--- or depth of the stack weighs less.
-pub record PrintsCircuit (T : Topology) (r : Request) (old new : Option (List ℕ)) : Type 0 where
-  pub answer : Answer
+-- the text is the document of this answer, and of no other
+pub record PrintsOne (answer : Answer) (old new : Option (List ℕ)) : Type 0 where
   pub formed : IsWellFormed answer
   pub printed : Appends old new (text_of (lines_of answer))
   pub alone : (other : Answer) → IsWellFormed other → text_of (lines_of other) ≡ text_of (lines_of answer) → other ≡ answer
+
+-- The text is the document of what is shown of one answer, and of no other. It answers this request, and the status is that of its
+-- outcome. It is exact: its outcome is that of the request, its hops are a walk of that weight where one is found, with their flags
+-- and rules, and its potentials are exactly the reached pairs with their least weights. And its certificate holds.
+pub record PrintsAnswer (T : Topology) (r : Request) (potentials : Bool) (status : ℕ) (old new : Option (List ℕ)) : Type 0 where
+  pub answer : Answer
+  pub prints : PrintsOne (shown potentials answer) old new
+  pub request : answer.request ≡ r
+  pub told : status ≡ code (status_of answer.outcome)
+  pub exact : IsExactAnswer T answer
+  pub certified : Certificate T answer
+
+-- The text is the document of one answer, and of no other. It answers this request; its hops are a circuit of the topology, for every
+-- stack that the unit already has; each adaptation is undone by its match; the stated weight is that of the hops; no walk of any
+-- length or depth of the stack weighs less; the flag of each hop is that of its place; and the rules are those of the hops.
+pub record PrintsCircuit (T : Topology) (r : Request) (old new : Option (List ℕ)) : Type 0 where
+  pub answer : Answer
+  pub prints : PrintsOne answer old new
   pub request : answer.request ≡ r
   pub circuit : Circuit T r answer.hops
   pub undone : AdaptationsMatch T answer.hops
   pub weight : answer.outcome ≡ Found (weight_of T answer.hops).cost (weight_of T answer.hops).hops
   pub least : (others : List Hop) → Walk T r others → IsAtMost (weight_of T answer.hops) (weight_of T others)
+  pub flagged : AreFlagged T r answer.hops answer.flags
+  pub ruled : AreRulesOf answer.hops answer.rules
 
 -- ---- the sentences
 
--- 0: the text is such a document
+-- 0, 1, 7 and 8, for `find` and `route`: the text is the document of such an answer, whole or without its potentials
+abbrev pub FindsAnswer : Words → Store → Store → ℕ → Option (List ℕ) → Option (List ℕ) → Type 0
+FindsAnswer words before after status old new =
+    Ran status → Tells before after → (r : Request) (names : List Word) (potentials : Bool) (T : Topology) → command_of words ≡ Some (Find r names potentials)
+    → AreDomains before (file_words 1 names) T → IsAccepted T → IsKnown T r → PrintsAnswer T r potentials status old new
+
+-- 0, for `find` and `route`: the text is the document of such a circuit
 abbrev pub FindsCircuit : Words → Store → Store → ℕ → Option (List ℕ) → Option (List ℕ) → Type 0
 FindsCircuit words before after status old new =
     status ≡ 0 → Tells before after → (r : Request) (T : Topology) → AsksAccepted words before r T → PrintsCircuit T r old new

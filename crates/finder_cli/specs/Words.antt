@@ -1,5 +1,5 @@
 -- The command that the words spell.
-use Rattle.std.specs.Prelude.{ℕ, ◌≤◌, List, [], ◌∷◌, ◌&&◌, length, map, nat_lt, nat_le, codes, Bool, true, Option, Some, None, String, string_bytes, if◌then◌else◌}
+use Rattle.std.specs.Prelude.{ℕ, ◌≤◌, List, [], ◌∷◌, ◌&&◌, length, map, nat_lt, nat_le, codes, Bool, true, false, Option, Some, None, String, string_bytes, if◌then◌else◌}
 use Rattle.std.specs.List.{list_all}
 use Rattle.std.specs.Str.{bytes_eq}
 use Rattle.std.specs.declared.alloc.Global.{Global}
@@ -40,13 +40,14 @@ end_of port wish = do
   wished ← wish_of wish
   Some (record { port = id; wish = wished })
 
-unfoldable pub find_of : Words → Option Command
-find_of (from ∷ from_wish ∷ to ∷ to_wish ∷ names) = do
+-- a request over files, whose answer is shown with its potentials or without
+unfoldable pub find_of : Bool → Words → Option Command
+find_of potentials (from ∷ from_wish ∷ to ∷ to_wish ∷ names) = do
   source ← end_of (string_bytes from) (string_bytes from_wish)
   target ← end_of (string_bytes to) (string_bytes to_wish)
   files ← files_of names
-  Some (Find (record { from = source.port; from_wish = source.wish; to = target.port; to_wish = target.wish }) files true)
-find_of words = None
+  Some (Find (record { from = source.port; from_wish = source.wish; to = target.port; to_wish = target.wish }) files potentials)
+find_of potentials words = None
 
 unfoldable pub survey_of : Words → Option Command
 survey_of names = do
@@ -56,8 +57,9 @@ survey_of names = do
 unfoldable pub command_of : Words → Option Command
 command_of [] = None
 command_of (word ∷ rest) =
-    if is_word (string_bytes word) (codes "find") then find_of rest
-    else (if is_word (string_bytes word) (codes "survey") then survey_of rest else None)
+    if is_word (string_bytes word) (codes "find") then find_of true rest
+    else (if is_word (string_bytes word) (codes "route") then find_of false rest
+    else (if is_word (string_bytes word) (codes "survey") then survey_of rest else None))
 
 -- the command names at most 64 files
 abbrev pub NamesFewFiles : Command → Type 0

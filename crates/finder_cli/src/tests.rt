@@ -33,77 +33,42 @@ fn searches(rt: HostRuntime) -> Result<(), Fail> {
         (
             "find a any b any one.json",
             0,
-            "circuit 1\nrequest a any b any\noutcome found 1 1\nhop 1 link l a - b - d\nend\n",
+            "circuit 1\nrequest a any b any\noutcome found 1 1\nhop 1 link l a - b - d\ndomain d\nrule 1 carry l a - b -\ntop a - 0 0\ntop b - 1 1\nend\n",
         ),
         (
-            "find a any a any one.json",
+            "route a any b any one.json",
             0,
-            "circuit 1\nrequest a any a any\noutcome found 0 0\nend\n",
+            "circuit 1\nrequest a any b any\noutcome found 1 1\nhop 1 link l a - b - d\ndomain d\nrule 1 carry l a - b -\nend\n",
         ),
         (
             "find b any a any one.json",
             1,
-            "circuit 1\nrequest b any a any\noutcome none\nend\n",
-        ),
-        (
-            "find a any b any two.json",
-            0,
-            "circuit 1\nrequest a any b any\noutcome found 2 1\nhop 1 link l2 a - b - d\nend\n",
-        ),
-        (
-            "find a any z any three.json",
-            0,
-            "circuit 1\nrequest a any z any\noutcome found 3 3\nhop 1 link l1 a - b - d\nhop 2 link l2 b - c - d\nhop 3 link l3 c - z - d\nend\n",
-        ),
-        (
-            "find a any b any big.json",
-            0,
-            "circuit 1\nrequest a any b any\noutcome found 18446744073709551615 1\nhop 1 link l1 a - b - d\nend\n",
-        ),
-        (
-            "find a any c any big.json",
-            7,
-            "circuit 1\nrequest a any c any\noutcome past\nend\n",
-        ),
-        (
-            "find a any c any zero.json",
-            0,
-            "circuit 1\nrequest a any c any\noutcome found 0 2\nhop 1 link l1 a - b - d\nhop 2 link l3 b - c - d\nend\n",
-        ),
-        (
-            "find c1 any c2 any tunnel.json",
-            0,
-            "circuit 1\nrequest c1 any c2 any\noutcome found 3 3\nhop 1 adapt ad c1 - s1 - d\nhop 2 link t s1 - s2 - d\nhop 3 deadapt de s2 - c2 - d\nend\n",
-        ),
-        (
-            "find c1 any c2 any other.json",
-            1,
-            "circuit 1\nrequest c1 any c2 any\noutcome none\nend\n",
-        ),
-        (
-            "find c1 any c2 any labelled.json",
-            0,
-            "circuit 1\nrequest c1 any c2 any\noutcome found 3 3\nhop 1 adapt ad c1 105 s1 - d\nhop 2 link t s1 - s2 - d\nhop 3 deadapt de s2 - c2 105 d\nend\n",
-        ),
-        (
-            "find x1 any y1 any again.json",
-            0,
-            "circuit 1\nrequest x1 any y1 any\noutcome found 6 6\nhop 1 adapt f x1 - x0 - d\nhop 2 link l x0 - y0 - d\nhop 3 deadapt u y0 - m1 - d\nhop 4 adapt g m1 - x0 - d\nhop 5 link l x0 - y0 - d\nhop 6 deadapt v y0 - y1 - d\nend\n",
-        ),
-        (
-            "find p 100 q 200 vlan.json",
-            1,
-            "circuit 1\nrequest p 100 q 200\noutcome none\nend\n",
+            "circuit 1\nrequest b any a any\noutcome none\ntop b - 0 0\nend\n",
         ),
         (
             "find p 100 q 200 swap.json",
             0,
-            "circuit 1\nrequest p 100 q 200\noutcome found 1 1\nhop 1 cross s p 100 q 200 d\nend\n",
+            "circuit 1\nrequest p 100 q 200\noutcome found 1 1\nhop 1 cross s p 100 q 200 d\ndomain d\nrule 1 swap s p 100 q 200\ntop p 100 0 0\ntop q 100 1 1\ntop q 101 1 1\ntop q 200 1 1\nend\n",
         ),
         (
-            "find a any b any node.json",
+            "find c1 any c2 any tunnel.json",
             0,
-            "circuit 1\nrequest a any b any\noutcome found 1 1\nhop 1 cross s a - b - d\nend\n",
+            "circuit 1\nrequest c1 any c2 any\noutcome found 3 3\nhop 1 adapt ad c1 - s1 - d\nhop 2 link t s1 - s2 - d\nhop 3 deadapt de s2 - c2 - d\ndomain d\nrule 1 wrap ad c1 - s1 -\nrule 2 carry t s1 - s2 -\nrule 3 unwrap de s2 - c2 -\ntop c1 - 0 0\ntop c2 - 3 3\nseg s1 - s1 - 0 0\nseg s1 - s2 - 1 1\nend\n",
+        ),
+        (
+            "find x1 any y1 any again.json",
+            0,
+            "circuit 1\nrequest x1 any y1 any\noutcome found 6 6\nhop 1 adapt f x1 - x0 - d\nhop 2 link l x0 - y0 - d\nhop 3 deadapt u y0 - m1 - d\nhop 4 adapt g m1 - x0 - d again 1\nhop 5 link l x0 - y0 - d again 2\nhop 6 deadapt v y0 - y1 - d\ndomain d\nrule 1 wrap f x1 - x0 -\nrule 2 carry l x0 - y0 -\nrule 3 unwrap u y0 - m1 -\nrule 4 wrap g m1 - x0 -\nrule 5 carry l x0 - y0 -\nrule 6 unwrap v y0 - y1 -\ntop m1 - 3 3\ntop x1 - 0 0\ntop y1 - 6 6\nseg x0 - x0 - 0 0\nseg x0 - y0 - 1 1\nend\n",
+        ),
+        (
+            "find a any c any big.json",
+            7,
+            "circuit 1\nrequest a any c any\noutcome past\ntop a - 0 0\ntop b - 18446744073709551615 1\ntop c - past -\nend\n",
+        ),
+        (
+            "find a any c any zero.json",
+            0,
+            "circuit 1\nrequest a any c any\noutcome found 0 2\nhop 1 link l1 a - b - d\nhop 2 link l3 b - c - d\ndomain d\nrule 1 carry l1 a - b -\nrule 2 carry l3 b - c -\ntop a - 0 0\ntop b - 0 1\ntop c - 0 2\nend\n",
         ),
     ];
     for (words, status, printed) in cases {
@@ -123,7 +88,11 @@ fn refusals(rt: HostRuntime) -> Result<(), Fail> {
         "usage: find|route FROM LABEL TO LABEL FILE.. | check|replay ANSWER FILE.. | survey FILE.. | drill N\n";
     let cases = [
         ("find a any q any one.json", 4, "request unknown-port q\n"),
-        ("find a 7 b any one.json", 4, "request label-not-here a 7\n"),
+        (
+            "route a 7 b any one.json",
+            4,
+            "request label-not-here a 7\n",
+        ),
         (
             "find p 7 q any vlan.json",
             4,
@@ -142,7 +111,7 @@ fn refusals(rt: HostRuntime) -> Result<(), Fail> {
         ("survey wrong.json", 3, "fault 1 1 wrong-kind isSource b\n"),
         ("survey mixed.json", 3, "fault 1 3 link-layer l b\n"),
         ("find a any b any one.json gone.json", 5, "read 2 absent\n"),
-        ("find", 2, usage),
+        ("route", 2, usage),
         ("find a 07 b any one.json", 2, usage),
         ("drill 0", 2, usage),
         ("survey", 2, usage),
@@ -199,7 +168,7 @@ fn a_circuit_that_is_too_long(rt: HostRuntime) -> Result<(), Fail> {
     let mut files = MemFiles::new(alloc);
     let text = nested(alloc)?;
     files.put("nested.json", text.as_bytes())?;
-    let words = "find xN any yN any nested.json";
+    let words = "route xN any yN any nested.json";
     let printed = "circuit 1\nrequest xN any yN any\noutcome long 81916 81916\nend\n";
     assert!(rt; ends_so(alloc, words, &mut files, 8, printed)?);
     Ok(())

@@ -3,7 +3,7 @@ ghost use Rattle.io_edges.specs.Counts.{Rose};
 ghost use Rattle.finder_cli.specs.Answers.{Answers, CommandAnswers};
 ghost use Rattle.finder_cli.specs.Lines.{usage_line};
 ghost use Rattle.finder_cli.specs.Printed.{PrintsWhole, PrintsFront};
-ghost use Rattle.finder_cli.specs.Sentences.{CountsFiles, FindsCircuit, FindsFault, FindsLong, FindsNone, FindsPast, FindsUnknown, FindsUsage, IsNotRead, IsTooLarge};
+ghost use Rattle.finder_cli.specs.Sentences.{CountsFiles, FindsAnswer, FindsCircuit, FindsFault, FindsLong, FindsNone, FindsPast, FindsUnknown, FindsUsage, IsNotRead, IsTooLarge};
 ghost use Rattle.finder_cli.specs.Status.{code};
 ghost use Rattle.finder_cli.specs.Through.{Gives, IsText};
 ghost use Rattle.finder_cli.specs.Words.{NamesFewFiles};
@@ -32,8 +32,8 @@ fn perform<F: Files>(alloc: Global, command: &Command, files: &mut F) -> Result<
         Command::Find {
             request,
             files: names,
-            ..
-        } => find(alloc, request, names, files),
+            potentials,
+        } => find(alloc, request, *potentials, names, files),
         Command::Survey { files: names } => survey(alloc, names, files),
     }
 }
@@ -62,7 +62,11 @@ pub fn run<F: Files, K: Sink>(alloc: Global, words: &[String], files: &mut F, ou
     ensures settled { IsSome (F.store files.old).contents → ¬ Rose (F.store files.old).faults (F.store files.new).faults → result ≢ 6 → result ≢ 10 →
         (reply : Reply) → Answers words.now (F.store files.old) (F.store files.new) reply → result ≡ code reply.status }
 
-    // 0, for `find`: the text is the document of one answer alone, whose hops are a circuit of the files, and no walk costs less.
+    // 0, 1, 7 and 8, for `find` and `route`: the text is the document of one answer alone, which is exact and has a certificate; `find`
+    // shows it whole, `route` without its potentials.
+    ensures certified { FindsAnswer words.now (F.store files.old) (F.store files.new) result (K.written out.old) (K.written out.new) }
+
+    // 0, for `find` and `route`: the hops of that answer are a circuit of the files, with their flags and rules, and no walk costs less.
     ensures circuit { FindsCircuit words.now (F.store files.old) (F.store files.new) result (K.written out.old) (K.written out.new) }
 
     // 0, for `survey`: the text is the counts of the files.

@@ -18,7 +18,7 @@ pub type NameList = Items<Name>;
 /// What the words ask for.
 #[derive(Drop)]
 pub enum Command {
-    /// The cheapest circuit of the request over these topology files; with its potentials, or without.
+    /// The cheapest circuit of the request over these topology files, shown with its potentials or without.
     Find {
         request: Request,
         files: NameList,
@@ -134,8 +134,8 @@ fn parse_end(alloc: Global, port: &str, wish: &str) -> Result<End, WordsFault>
 }
 
 #[tactic(auto, unfolding(crate::specs::Words::find_of))]
-fn parse_find(alloc: Global, words: &[String]) -> Result<Command, WordsFault>
-    ensures spelled { Spells result (find_of words.now) }
+fn parse_find(alloc: Global, words: &[String], potentials: bool) -> Result<Command, WordsFault>
+    ensures spelled { Spells result (find_of potentials words.now) }
     ensures few { IfOk result NamesFewFiles }
 {
     let [from, from_wish, to, to_wish, names @ ..] = words else {
@@ -153,7 +153,7 @@ fn parse_find(alloc: Global, words: &[String]) -> Result<Command, WordsFault>
     Ok(Command::Find {
         request,
         files,
-        potentials: true,
+        potentials,
     })
 }
 
@@ -168,8 +168,8 @@ fn parse_survey(alloc: Global, names: &[String]) -> Result<Command, WordsFault>
 
 /// The command that the words behind the program's name spell.
 ///
-/// `find FROM LABEL TO LABEL FILE..` and `survey FILE..`, where FROM and TO are ids, LABEL is `any` or a decimal below 2^32
-/// without leading zeros, and FILE stands 1 to 64 times and is not empty. All other words are usage.
+/// `find FROM LABEL TO LABEL FILE..`, `route` with the same words, and `survey FILE..`, where FROM and TO are ids, LABEL is `any`
+/// or a decimal below 2^32 without leading zeros, and FILE stands 1 to 64 times and is not empty. All other words are usage.
 #[tactic(auto, unfolding(crate::specs::Words::command_of))]
 pub fn parse_words(alloc: Global, words: &[String]) -> Result<Command, WordsFault>
     ensures spelled { Spells result (command_of words.now) }
@@ -179,7 +179,8 @@ pub fn parse_words(alloc: Global, words: &[String]) -> Result<Command, WordsFaul
         return Err(WordsFault::Usage);
     };
     match word.as_str() {
-        "find" => parse_find(alloc, rest),
+        "find" => parse_find(alloc, rest, true),
+        "route" => parse_find(alloc, rest, false),
         "survey" => parse_survey(alloc, rest),
         _ => Err(WordsFault::Usage),
     }

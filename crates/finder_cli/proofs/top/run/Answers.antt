@@ -2,7 +2,7 @@ use Rattle.std.proofs.Common.{◌∙◌, ap}
 use Rattle.finder_cli.specs.Status.{code}
 use Rattle.finder_cli.proofs.Settled.{Answers-one}
 use Rattle.finder_cli.proofs.Sentences.{says-none, says-past, says-long, says-unknown}
-use Rattle.finder_cli.proofs.Circuits.{says-circuit}
+use Rattle.finder_cli.proofs.Circuits.{says-answer, says-circuit}
 use Rattle.finder_cli.proofs.Counted.{says-counts}
 use Rattle.finder_cli.proofs.Causes.{says-usage, says-fault, says-not-read, says-too-large}
 use Rattle.finder_cli.proofs.top.run.Goals as goal
@@ -10,6 +10,10 @@ use Rattle.finder_cli.proofs.top.run.Goals as goal
 pub returns-in-Ok-clause-settled : goal.returns-in-Ok-clause-settled
 returns-in-Ok-clause-settled g c = λ told calm whole memory reply may.
     c.print.ensures.status whole ∙ ap code (Answers-one c.args.words.now (g.F.Files.store c.args.files.now) (g.F.Files.store c.reply_to.new.files) c.in-Ok.reply reply told calm c.in-Ok.ensures may)
+
+pub returns-in-Ok-clause-certified : goal.returns-in-Ok-clause-certified
+returns-in-Ok-clause-certified g c = says-answer c.args.words.now (g.F.Files.store c.args.files.now) (g.F.Files.store c.reply_to.new.files) c.print.result c.in-Ok.reply
+    (g.K.Sink.written c.args.out.now) (g.K.Sink.written c.print.new.out) (λ ran. record { may = c.in-Ok.ensures; code = c.print.ensures.status ran.0 }) c.print.ensures.whole
 
 pub returns-in-Ok-clause-circuit : goal.returns-in-Ok-clause-circuit
 returns-in-Ok-clause-circuit g c = says-circuit c.args.words.now (g.F.Files.store c.args.files.now) (g.F.Files.store c.reply_to.new.files) c.print.result c.in-Ok.reply
