@@ -1,5 +1,5 @@
 -- What stands in the text of a survey.
-use Rattle.std.proofs.Common.{◌≡◌, ◌≢◌, ◌∙◌, sym, refl, ap, subst, ℕ, suc, List, [], ◌∷◌, ◌++◌, Option, Some, None, IsSome, ◌⊎◌, inl, inr}
+use Rattle.std.proofs.Common.{◌≡◌, ◌≢◌, ◌∙◌, sym, refl, ap, subst, ℕ, suc, List, [], ◌∷◌, ◌++◌, Option, Some, None, IsSome, inl, inr}
 use Rattle.std.proofs.lemmas.Bool.{false≢true}
 use Rattle.std.specs.Io.KnownBytes.{Appends}
 use Rattle.std.specs.List.{concat}
@@ -7,14 +7,14 @@ use Rattle.io_edges.specs.Counts.{Rose}
 use Rattle.io_edges.specs.Reads.{Store, Contents}
 use Rattle.circuit_spec.specs.Faults.{IsAccepted}
 use Rattle.circuit_spec.specs.Network.{Topology}
-use Rattle.nml_inventory.specs.Relations.{IsCount, IsClassCount}
+use Rattle.nml_inventory.specs.Relations.{IsCount}
 use Rattle.finder_cli.specs.declared.reply.Reply.{Reply}
 use Rattle.finder_cli.specs.declared.words.Command.{Command}
 use Rattle.finder_cli.specs.declared.words.Command.TheVariants.{Survey}
 use Rattle.finder_cli.specs.Accepting.{IfAccepted}
 use Rattle.finder_cli.specs.Answers.{CommandAnswers}
 use Rattle.finder_cli.specs.Reading.{AreDomains, file_words}
-use Rattle.finder_cli.specs.Sentences.{Ran, Tells, CountsFiles}
+use Rattle.finder_cli.specs.Sentences.{Ran, CountsFiles}
 use Rattle.finder_cli.specs.Status.{code}
 use Rattle.finder_cli.specs.Surveying.{IsSurvey, counts, heading}
 use Rattle.finder_cli.specs.Words.{Word, Words, command_of}

@@ -1,5 +1,5 @@
 -- Over told contents, where reading has not failed, all replies that may be have one status.
-use Rattle.std.proofs.Common.{ℕ, ◌≡◌, ◌≢◌, ◌∙◌, sym, refl, ap, subst, Bool, List, [], ◌∷◌, Option, Some, None, IsSome, ◌⊎◌, inl, inr}
+use Rattle.std.proofs.Common.{ℕ, ◌≡◌, ◌≢◌, ◌∙◌, sym, refl, ap, subst, Bool, List, [], ◌∷◌, Option, Some, None, IsSome, inl, inr}
 use Rattle.std.proofs.lemmas.Bool.{false≢true}
 use Rattle.io_edges.specs.Counts.{Rose}
 use Rattle.io_edges.specs.Reads.{Store, Contents}
