@@ -1,12 +1,11 @@
 -- States that are marked, step by step.
-use Rattle.std.proofs.Common.{◌≡◌, ℕ, ◌+◌, ◌<◌, ◌⊎◌, List, length, subst, arith, inl, inr, Some, slice_get}
+use Rattle.std.proofs.Common.{◌≡◌, ℕ, ◌+◌, ◌<◌, List, length, subst, arith, inl, inr, Some, slice_get}
 use Rattle.std.specs.Prelude.{Bool, true}
-use Rattle.ml_base.specs.declared.numbers.StateNo.{StateNo}
 use Rattle.adapt_machine.specs.Machine.{MachineValue}
 use Rattle.adapt_machine.specs.declared.MachineKind.{MachineKind}
 use Rattle.adapt_machine.specs.declared.MachineStep.{MachineStep}
 use Rattle.segment_grammar.proofs.Places.{slice_get-below, same_at}
-use Rattle.knuth_search.specs.Tables.{IsLeftBy, AreMarks}
+use Rattle.knuth_search.specs.Tables.{AreMarks}
 use Rattle.knuth_search.proofs.Gathering.{earlier_or_here}
 
 -- the states that those of the first `n` steps leave that are of the kind

@@ -1,7 +1,5 @@
 -- Candidates that are offered.
 use Rattle.std.proofs.Common.{◌≡◌, ℕ, ◌+◌, ◌<◌, ◌⊎◌, List, ◌∷◌, length, refl, sym, ◌∙◌, ap, subst, inl, inr, arith, Contains, Some, None, slice_get, zero as nought, suc, slice_index_or}
-use Rattle.std.specs.List.Sorted.{IsPermutation}
-use Rattle.std.proofs.lemmas.List.Sorted.{Contains-permutation}
 use Rattle.std.proofs.lemmas.Bool.{cases_lt}
 use Rattle.std.proofs.Math.ListN.{get_or}
 use Rattle.ml_base.specs.declared.numbers.StepNo.{StepNo}
@@ -21,7 +19,6 @@ use Rattle.segment_grammar.specs.Index.{ListsSteps, IsPushFrom, IsPushInto, IsPo
 use Rattle.segment_grammar.proofs.Places.{contains_at, at_contains, same_at, slice_get-below}
 use Rattle.knuth_search.specs.Following.{zero, stepped, IsCovered, IsStepOf, FlatBy, OpenedBy, NestedBy, Enters, Meets, Closes, PushedBy, Fills, SomePot, AtPlace, Among, IsOffered, Offers}
 use Rattle.knuth_search.specs.Tables.{Queued, IsLeftBy}
-use Rattle.knuth_search.proofs.Filed.{covered_itself}
 
 pub contains_head : {X : Type 0} (x : X) (xs : List X) → Contains (x ∷ xs) x
 contains_head x xs = (0, omega arith, refl)
