@@ -1,6 +1,6 @@
 -- The rows of a table when a pair is added.
-use Rattle.std.proofs.Common.{◌≡◌, ◌≢◌, ℕ, ◌<◌, ◌⊎◌, List, [], ◌∷◌, ◌++◌, length, map, refl, sym, ◌∙◌, ap, subst, inl, inr, Contains}
-use Rattle.std.specs.Prelude.{Bool, false, IsTrue, ◌↔◌}
+use Rattle.std.proofs.Common.{◌≡◌, ◌≢◌, ℕ, ◌<◌, ◌⊎◌, List, [], ◌∷◌, ◌++◌, length, map, refl, sym, ◌∙◌, ap, subst, inl, inr, Contains, Some, slice_get}
+use Rattle.std.specs.Prelude.{Bool, true, false, IsTrue, ◌↔◌}
 use Rattle.std.proofs.Math.ListN.{length-set}
 use Rattle.std.proofs.lemmas.Bool.{cases_eq}
 use Rattle.std.proofs.lemmas.List.{get_or-set_same, get_or-set_other, map-append, length-map}
@@ -10,6 +10,8 @@ use Rattle.ml_base.specs.declared.numbers.Root.TheVariants.{Entry}
 use Rattle.ml_base.specs.declared.weight.Weight.{Weight}
 use Rattle.ml_base.specs.Weight.{IsCappedAtMost}
 use Rattle.ml_base.proofs.Laws.{at_most-same, at_most-either}
+use Rattle.adapt_machine.specs.Machine.{MachineValue}
+use Rattle.adapt_machine.specs.declared.MachineKind.TheVariants.{Push, Pop}
 use Rattle.segment_grammar.specs.declared.potentials.Pot.{Pot}
 use Rattle.segment_grammar.specs.Rows.{row_of, with_item}
 use Rattle.segment_grammar.proofs.Rising.{refuted}
@@ -17,7 +19,7 @@ use Rattle.segment_grammar.proofs.Places.{pushed_at}
 use Rattle.knuth_search.specs.declared.derived.Derived.{Derived}
 use Rattle.knuth_search.specs.Derived.{Task}
 use Rattle.knuth_search.specs.Following.{IsCovered}
-use Rattle.knuth_search.specs.Tables.{IsFiled, KeepsRows, AreStored, IsKept, pot_of}
+use Rattle.knuth_search.specs.Tables.{IsLeftBy, IsFiled, KeepsRows, AreStored, IsKept, pot_of}
 
 pub keeps_same : (old new : List (List ℕ)) → new ≡ old → KeepsRows old new
 keeps_same old new e = subst (λ v. KeepsRows old v) (sym e) (record { rooms = refl; kept = λ s i c. c })
@@ -37,26 +39,27 @@ pub added_here : (rows : List (List ℕ)) (r x : ℕ) → r < length rows → Co
 added_here rows r x l = subst (λ v. Contains v x) (sym (row_here rows r x l)) (Contains-push (row_of rows r) x)
 
 -- the rows have more
-pub filed_kept : (states : ℕ) (pots : List Pot) (r s r' s' : List (List ℕ)) → IsFiled states pots r s → KeepsRows r r' → KeepsRows s s' → IsFiled states pots r' s'
-filed_kept states pots r s r' s' is k l = record {
+pub filed_kept : (m : MachineValue) (pots : List Pot) (r s r' s' : List (List ℕ)) → IsFiled m pots r s → KeepsRows r r' → KeepsRows s s' → IsFiled m pots r' s'
+filed_kept m pots r s r' s' is k l = record {
   root_rooms = k.rooms ∙ is.root_rooms;
   state_rooms = l.rooms ∙ is.state_rooms;
   under = λ x b i p f e. k.kept x.0 i (is.under x b i p f e);
   at = λ x b i p f e. l.kept x.0 i (is.at x b i p f e);
 }
 
-module _ (states : ℕ) (pots : List Pot) (r s : List (List ℕ)) (next : Pot) (place : ℕ) (whole : place ≡ length pots) (is : IsFiled states pots r s) where
-  pub filed_pushed : ((x : StateNo) → next.root ≡ Entry x → Contains (row_of r x.0) place) → Contains (row_of s next.state.0) place → IsFiled states (pots ++ next ∷ []) r s
+module _ (m : MachineValue) (pots : List Pot) (r s : List (List ℕ)) (next : Pot) (place : ℕ) (whole : place ≡ length pots) (is : IsFiled m pots r s) where
+  pub filed_pushed : (IsLeftBy m.steps Pop next.state → (x : StateNo) → next.root ≡ Entry x → Contains (row_of r x.0) place) → (IsLeftBy m.steps Push next.state → Contains (row_of s next.state.0) place)
+      → IsFiled m (pots ++ next ∷ []) r s
   filed_pushed root at = record {
     root_rooms = is.root_rooms;
     state_rooms = is.state_rooms;
     under = λ x b i p f e. elim (pushed_at pots next i p f) as (λ v. Contains (row_of r x.0) i) [
       | inl a ↦ is.under x b i p a e
-      | inr c ↦ subst (λ v. Contains (row_of r x.0) v) (whole ∙ sym c.0) (root x (sym (ap (λ v. v.root) c.1) ∙ e))
+      | inr c ↦ subst (λ v. Contains (row_of r x.0) v) (whole ∙ sym c.0) (root (subst (λ v. IsLeftBy m.steps Pop v.state) c.1 e.1) x (sym (ap (λ v. v.root) c.1) ∙ e.0))
     ];
     at = λ x b i p f e. elim (pushed_at pots next i p f) as (λ v. Contains (row_of s x.0) i) [
       | inl a ↦ is.at x b i p a e
-      | inr c ↦ subst (λ v. Contains (row_of s x.0) v) (whole ∙ sym c.0) (subst (λ v. Contains (row_of s v.0) place) (sym (ap (λ v. v.state) c.1) ∙ e) at)
+      | inr c ↦ subst (λ v. Contains (row_of s x.0) v) (whole ∙ sym c.0) (subst (λ v. Contains (row_of s v.0) place) (sym (ap (λ v. v.state) c.1) ∙ e.0) (at (subst (λ v. IsLeftBy m.steps Push v.state) c.1 e.1)))
     ];
   }
 
@@ -65,17 +68,22 @@ pub covered_itself : (list : List Pot) (p : Pot) → Contains list p → IsCover
 covered_itself list p c = record { weight = p.weight; listed = c; at_most = at_most-same p.weight }
 
 -- what is stored when a pair is added
-pub stored_kept : (task : Task) (items : List Derived) (r s r' s' : List (List ℕ)) → AreStored task items r s → KeepsRows r r' → KeepsRows s s' → AreStored task items r' s'
-stored_kept task items r s r' s' is k l = record { filed = filed_kept task.machine.states (map pot_of items) r s r' s' is.filed k l; kept = is.kept }
+module _ (task : Task) (items : List Derived) (r s : List (List ℕ)) (pops pushes : List Bool) (is : AreStored task items r s pops pushes) where
+  pub stored_kept : (r' s' : List (List ℕ)) → KeepsRows r r' → KeepsRows s s' → AreStored task items r' s' pops pushes
+  stored_kept r' s' k l = record { filed = filed_kept task.machine (map pot_of items) r s r' s' is.filed k l; kept = is.kept; popping = is.popping; pushing = is.pushing }
 
-pub stored_pushed : (task : Task) (items : List Derived) (r s : List (List ℕ)) (next : Derived) (place : ℕ) → place ≡ length items → AreStored task items r s → IsKept task next
-    → ((x : StateNo) → next.root ≡ Entry x → Contains (row_of r x.0) place) → Contains (row_of s next.state.0) place → (items' : List Derived) → items' ≡ items ++ next ∷ [] → AreStored task items' r s
-stored_pushed task items r s next place whole is kept under at items' pushed =
-    subst (λ v. AreStored task v r s) (sym pushed) (record {
-      filed = subst (λ v. IsFiled task.machine.states v r s) (sym (map-append pot_of items (next ∷ [])))
-          (filed_pushed task.machine.states (map pot_of items) r s (pot_of next) place (whole ∙ sym (length-map items pot_of)) is.filed under at);
-      kept = All-append (IsKept task) items (next ∷ []) is.kept (All-cons (IsKept task) next [] kept (All-nil (IsKept task)));
-    })
+  pub stored_pushed : (next : Derived) (place : ℕ) → place ≡ length items → IsKept task next
+      → (slice_get pops next.state.0 ≡ Some true → (x : StateNo) → next.root ≡ Entry x → Contains (row_of r x.0) place) → (slice_get pushes next.state.0 ≡ Some true → Contains (row_of s next.state.0) place)
+      → (items' : List Derived) → items' ≡ items ++ next ∷ [] → AreStored task items' r s pops pushes
+  stored_pushed next place whole kept under at items' pushed =
+      subst (λ v. AreStored task v r s pops pushes) (sym pushed) (record {
+        filed = subst (λ v. IsFiled task.machine v r s) (sym (map-append pot_of items (next ∷ [])))
+            (filed_pushed task.machine (map pot_of items) r s (pot_of next) place (whole ∙ sym (length-map items pot_of)) is.filed
+            (λ e. under (is.popping.all next.state e)) (λ e. at (is.pushing.all next.state e)));
+        kept = All-append (IsKept task) items (next ∷ []) is.kept (All-cons (IsKept task) next [] kept (All-nil (IsKept task)));
+        popping = is.popping;
+        pushing = is.pushing;
+      })
 
 pub heavier : (b : Bool) (u v : Weight) → IsTrue b ↔ IsCappedAtMost u v → b ≡ false → IsCappedAtMost v u
 heavier b u v says false_is = elim (at_most-either v u) as (λ w. IsCappedAtMost v u) [ inl a ↦ a | inr a ↦ absurd (refuted b says false_is a) ]

@@ -187,7 +187,7 @@ pub record IsGathering (task : Task) (items : List Derived) (n : ℕ) (potential
   pub least : (p : Pot) → Contains potentials p → (j : ℕ) (e : Derived) → slice_get items j ≡ Some e → IsOfPair (pot_of e) p.root p.state → IsCappedAtMost p.weight e.weight
   pub all : (i : ℕ) (d : Derived) → i < n → slice_get items i ≡ Some d → HasPair potentials (pot_of d)
 
-earlier_or_here : (i n : ℕ) → i < n + 1 → (i < n) ⊎ (i ≡ n)
+pub earlier_or_here : (i n : ℕ) → i < n + 1 → (i < n) ⊎ (i ≡ n)
 earlier_or_here i n l = elim (cases_lt i n) as (λ v. (i < n) ⊎ (i ≡ n)) [ inl a ↦ inl a | inr b ↦ inr (omega arith) ]
 
 trichotomy : (i n : ℕ) → (i < n) ⊎ ((i ≡ n) ⊎ (n < i))

@@ -1,6 +1,6 @@
 -- Pairs of a root and a state as keys of a map.
-use Rattle.std.proofs.Common.{◌≡◌, ℕ, ◌+◌, suc, ◌<◌, List, refl, ◌∙◌, ap, subst, sym, arith, Some, None, Option, inl, inr, ◌⊎◌}
-use Rattle.std.specs.Prelude.{Bool, true, false, cond, ◌∷◌, Contains}
+use Rattle.std.proofs.Common.{◌≡◌, ℕ, suc, List, refl, ◌∙◌, ap, subst, sym, arith, Some, None, Option, inl, inr, ◌⊎◌}
+use Rattle.std.specs.Prelude.{true, false, cond, ◌∷◌, Contains}
 use Rattle.std.specs.List.Sorted.{IsPermutation}
 use Rattle.std.proofs.lemmas.Grind.{common_steps}
 use Rattle.std.proofs.lemmas.List.Sorted.{Contains-permutation}

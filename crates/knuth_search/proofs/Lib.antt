@@ -6,3 +6,4 @@ pub mod Offering
 pub mod Turning
 pub mod Gathering
 pub mod Choosing
+pub mod Marking

@@ -1,13 +1,14 @@
 -- Candidates that are offered.
 use Rattle.std.proofs.Common.{◌≡◌, ℕ, ◌+◌, ◌<◌, ◌⊎◌, List, ◌∷◌, length, refl, sym, ◌∙◌, ap, subst, inl, inr, arith, Contains, Some, None, slice_get, zero as nought, suc, slice_index_or}
-use Rattle.std.specs.List.Sorted.{IsPermutation}
-use Rattle.std.proofs.lemmas.List.Sorted.{Contains-permutation}
 use Rattle.std.proofs.lemmas.Bool.{cases_lt}
 use Rattle.std.proofs.Math.ListN.{get_or}
 use Rattle.ml_base.specs.declared.numbers.StepNo.{StepNo}
 use Rattle.ml_base.specs.declared.numbers.StateNo.{StateNo}
 use Rattle.ml_base.specs.declared.numbers.Root.{Root}
+use Rattle.adapt_machine.specs.Machine.{MachineValue}
+use Rattle.adapt_machine.specs.declared.MachineKind.{MachineKind}
 use Rattle.adapt_machine.specs.declared.MachineKind.TheVariants.{Push}
+use Rattle.knuth_search.specs.Derived.{Task}
 use Rattle.ml_base.specs.declared.numbers.Root.TheVariants.{Entry}
 use Rattle.ml_base.specs.declared.weight.Weight.{Weight}
 use Rattle.ml_base.specs.Weight.{capped_total}
@@ -17,8 +18,7 @@ use Rattle.segment_grammar.specs.Pots.{pot}
 use Rattle.segment_grammar.specs.Index.{ListsSteps, IsPushFrom, IsPushInto, IsPopAt}
 use Rattle.segment_grammar.proofs.Places.{contains_at, at_contains, same_at, slice_get-below}
 use Rattle.knuth_search.specs.Following.{zero, stepped, IsCovered, IsStepOf, FlatBy, OpenedBy, NestedBy, Enters, Meets, Closes, PushedBy, Fills, SomePot, AtPlace, Among, IsOffered, Offers}
-use Rattle.knuth_search.specs.Tables.{Queued}
-use Rattle.knuth_search.proofs.Filed.{covered_itself}
+use Rattle.knuth_search.specs.Tables.{Queued, IsLeftBy}
 
 pub contains_head : {X : Type 0} (x : X) (xs : List X) → Contains (x ∷ xs) x
 contains_head x xs = (0, omega arith, refl)
@@ -188,3 +188,9 @@ fills_listed steps table inner e root list lists p s =
           (record { step = enters.push.step; found = enters.push.found; passes = (enters.push.passes.0, entry_same inner.root enters.push.step.to e enters.under root) }),
       s.gives,
     )
+
+-- what a step of a kind leaves
+pub left_by : (task : Task) (steps : List MachineStep) (m : MachineValue) → task.machine ≡ m → m.steps ≡ steps → (kind : MachineKind) (x : StateNo) (number : ℕ) (t : MachineStep) → slice_get steps number ≡ Some t → t.kind ≡ kind → t.from ≡ x
+    → IsLeftBy task.machine.steps kind x
+left_by task steps m same are kind x number t found is_kind leaves =
+    record { number = number; step = t; found = subst (λ l. slice_get l number ≡ Some t) (sym (ap (λ v. v.steps) same ∙ are)) found; is_kind = is_kind; leaves = leaves }

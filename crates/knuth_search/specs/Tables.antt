@@ -1,5 +1,5 @@
 -- The table of settled pairs and the queue of candidates.
-use Rattle.std.specs.Prelude.{◌≡◌, ℕ, ◌<◌, Bool, ◌&&◌, nat_eq, List, length, map, slice_get, Option, Some, None}
+use Rattle.std.specs.Prelude.{◌≡◌, ℕ, ◌<◌, Bool, true, ◌&&◌, nat_eq, List, length, map, slice_get, Option, Some, None}
 use Rattle.std.specs.List.{Contains, All}
 use Rattle.std.specs.Map.{lookup}
 use Rattle.std.specs.Option.{option_eq}
@@ -7,6 +7,10 @@ use Rattle.ml_base.specs.declared.numbers.StateNo.{StateNo}
 use Rattle.ml_base.specs.declared.numbers.Root.{Root}
 use Rattle.ml_base.specs.declared.numbers.Root.TheVariants.{Request, Entry}
 use Rattle.ml_base.specs.declared.weight.Weight.{Weight}
+use Rattle.adapt_machine.specs.Machine.{MachineValue}
+use Rattle.adapt_machine.specs.declared.MachineStep.{MachineStep}
+use Rattle.adapt_machine.specs.declared.MachineKind.{MachineKind}
+use Rattle.adapt_machine.specs.declared.MachineKind.TheVariants.{Push, Pop}
 use Rattle.segment_grammar.specs.declared.potentials.Pot.{Pot}
 use Rattle.segment_grammar.specs.Pots.{pot}
 use Rattle.segment_grammar.specs.Rows.{row_of}
@@ -47,17 +51,32 @@ weight_in offered a b = lookup (λ (p : Option ℕ × ℕ). is_key a b p.0 p.1) 
 abbrev pub ListsPlaces : List Pot → (Pot → Type 0) → List ℕ → Type 0
 ListsPlaces pots test list = (i : ℕ) (p : Pot) → slice_get pots i ≡ Some p → test p → Contains list i
 
--- rows have the places of the pots, by root and by state
-pub record IsFiled (states : ℕ) (pots : List Pot) (by_root by_state : List (List ℕ)) : Type 0 where
-  pub root_rooms : length by_root ≡ states
-  pub state_rooms : length by_state ≡ states
-  pub under : (x : StateNo) → x.0 < states → ListsPlaces pots (λ p. p.root ≡ Entry x) (row_of by_root x.0)
-  pub at : (x : StateNo) → x.0 < states → ListsPlaces pots (λ p. p.state ≡ x) (row_of by_state x.0)
+-- a step of the kind leaves the state
+pub record IsLeftBy (steps : List MachineStep) (kind : MachineKind) (x : StateNo) : Type 0 where
+  pub number : ℕ
+  pub step : MachineStep
+  pub found : slice_get steps number ≡ Some step
+  pub is_kind : step.kind ≡ kind
+  pub leaves : step.from ≡ x
+
+-- the states that steps of the kind leave are marked; others may be
+pub record AreMarks (m : MachineValue) (kind : MachineKind) (marks : List Bool) : Type 0 where
+  pub rooms : length marks ≡ m.states
+  pub all : (x : StateNo) → IsLeftBy m.steps kind x → slice_get marks x.0 ≡ Some true
+
+-- rows have the places of the pots that pops leave, by root, and of those that pushes leave, by state
+pub record IsFiled (m : MachineValue) (pots : List Pot) (by_root by_state : List (List ℕ)) : Type 0 where
+  pub root_rooms : length by_root ≡ m.states
+  pub state_rooms : length by_state ≡ m.states
+  pub under : (x : StateNo) → x.0 < m.states → ListsPlaces pots (λ p. (p.root ≡ Entry x) × IsLeftBy m.steps Pop p.state) (row_of by_root x.0)
+  pub at : (x : StateNo) → x.0 < m.states → ListsPlaces pots (λ p. (p.state ≡ x) × IsLeftBy m.steps Push p.state) (row_of by_state x.0)
 
 -- the items of a table for this task, filed
-pub record AreStored (task : Task) (items : List Derived) (by_root by_state : List (List ℕ)) : Type 0 where
-  pub filed : IsFiled task.machine.states (map pot_of items) by_root by_state
+pub record AreStored (task : Task) (items : List Derived) (by_root by_state : List (List ℕ)) (pops pushes : List Bool) : Type 0 where
+  pub filed : IsFiled task.machine (map pot_of items) by_root by_state
   pub kept : All (IsKept task) items
+  pub popping : AreMarks task.machine Pop pops
+  pub pushing : AreMarks task.machine Push pushes
 
 -- rows have what they had
 pub record KeepsRows (old new : List (List ℕ)) : Type 0 where

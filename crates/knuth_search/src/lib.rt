@@ -2,6 +2,7 @@
 #![tactic(auto)]
 
 mod derived;
+mod marks;
 mod queue;
 mod run;
 #[cfg(test)]

@@ -396,6 +396,9 @@ fn fill<'m, 'a>(
     let Root::Entry(entry) = inner.root else {
         return Ok(());
     };
+    if !table.may_pop(inner.state) {
+        return Ok(());
+    }
     fill_under(setting, table, queue, inner, entry)?;
     Ok(())
 }

@@ -1,19 +1,22 @@
-ghost use Rattle.std.specs.Prelude.{◌≡◌, ◌<◌, ◌∷◌, ◌++◌, [], IfOk, IfSome, IfNone, length, map, slice_get, Some, None};
+ghost use Rattle.std.specs.Prelude.{◌≡◌, ◌<◌, ◌∷◌, ◌++◌, [], IfOk, IfSome, IfNone, length, map, slice_get, Some, None, true, false};
 ghost use Rattle.std.specs.List.{All, Contains};
 ghost use Rattle.ml_base.specs.declared.numbers.StateNo.{StateNo};
 ghost use Rattle.ml_base.specs.declared.numbers.Root.TheVariants.{Entry};
 ghost use Rattle.segment_grammar.specs.Rows.{row_of};
 ghost use Rattle.knuth_search.specs.Derived.{IsRootWithin};
-ghost use Rattle.knuth_search.specs.Tables.{pot_of, IsKept, ListsPlaces, KeepsRows};
+ghost use Rattle.knuth_search.specs.Tables.{pot_of, IsKept, IsLeftBy, ListsPlaces, KeepsRows};
+ghost use Rattle.adapt_machine.specs.declared.MachineKind.TheVariants.{Push, Pop};
 
 use crate::derived::Derived;
-use adapt_machine::Machine;
+use crate::marks::marks_of;
+use adapt_machine::{Machine, MachineKind};
 use ml_base::{NoMemory, Root, StateNo};
 use segment_grammar::Rows;
 use std::alloc::Global;
 use std::marker::Model;
 
-/// The settled pairs with their weights and derivations. The places of those under an entered state or at a state stand in rows.
+/// The settled pairs with their weights and derivations. In rows stand the places of those under an entered state, as far as a pop
+/// leaves them, and of those at a state that a push leaves.
 #[derive(Drop)]
 pub struct Table<'m, 'a> {
     machine: &'m Machine,
@@ -21,6 +24,8 @@ pub struct Table<'m, 'a> {
     items: Vec<Derived<'a>>,
     by_root: Rows<u64>,
     by_state: Rows<u64>,
+    pops: Vec<bool>,
+    pushes: Vec<bool>,
 }
 
 impl<'m, 'a> Model for Table<'m, 'a> {
@@ -31,7 +36,7 @@ impl<'m, 'a> Model for Table<'m, 'a> {
 
     ghost view = { λ t. record { task = record { machine = t.machine.now; starts = t.starts.now }; pots = map pot_of t.items.items } };
 
-    ghost invariant = { λ t. AreStored (record { machine = t.machine.now; starts = t.starts.now }) t.items.items t.by_root t.by_state };
+    ghost invariant = { λ t. AreStored (record { machine = t.machine.now; starts = t.starts.now }) t.items.items t.by_root t.by_state t.pops.items t.pushes.items };
 }
 
 /// Files a place in a row.
@@ -57,6 +62,45 @@ fn file_root(rows: &mut Rows<u64>, root: Root, place: u64) -> Result<(), NoMemor
     Ok(())
 }
 
+/// Files the place of a pair in the row of its root, if a pop may leave it.
+fn file_inner(
+    rows: &mut Rows<u64>,
+    pops: &[bool],
+    root: Root,
+    state: StateNo,
+    place: u64,
+) -> Result<(), NoMemory>
+    requires within { state.0 < length pops.now }
+    requires root { IsRootWithin (length rows.old) root }
+    ensures kept { KeepsRows rows.old rows.new }
+    ensures here { IfOk result (λ _. slice_get pops.now state.0 ≡ Some true → (x : StateNo) → root ≡ Entry x → Contains (row_of rows.new x.0) place) }
+{
+    if !pops[state.0 as usize] {
+        return Ok(());
+    }
+    file_root(rows, root, place)?;
+    Ok(())
+}
+
+/// Files the place of a pair in the row of its state, if a push leaves that.
+fn file_waiting(
+    rows: &mut Rows<u64>,
+    pushes: &[bool],
+    state: StateNo,
+    place: u64,
+) -> Result<(), NoMemory>
+    requires within { state.0 < length pushes.now }
+    requires row { state.0 < length rows.old }
+    ensures kept { KeepsRows rows.old rows.new }
+    ensures here { IfOk result (λ _. slice_get pushes.now state.0 ≡ Some true → Contains (row_of rows.new state.0) place) }
+{
+    if !pushes[state.0 as usize] {
+        return Ok(());
+    }
+    file(rows, state.0, place)?;
+    Ok(())
+}
+
 impl<'m, 'a> Table<'m, 'a> {
     /// A table without pairs.
     pub fn new(
@@ -69,12 +113,16 @@ impl<'m, 'a> Table<'m, 'a> {
     {
         let by_root = Rows::new(alloc, machine.states())?;
         let by_state = Rows::new(alloc, machine.states())?;
+        let pops = marks_of(alloc, machine, MachineKind::Pop)?;
+        let pushes = marks_of(alloc, machine, MachineKind::Push)?;
         Ok(Table {
             machine,
             starts,
             items: Vec::new(alloc),
             by_root,
             by_state,
+            pops,
+            pushes,
         })
     }
 
@@ -90,20 +138,28 @@ impl<'m, 'a> Table<'m, 'a> {
         Some(*item)
     }
 
-    /// The places of the pairs under an entered state.
+    /// The places of the pairs under an entered state that pops leave.
     pub fn under(&self, entry: StateNo) -> &[u64]
         requires { entry.0 < self.now.task.machine.states }
-        ensures { ListsPlaces self.now.pots (λ p. p.root ≡ Entry entry) result.now }
+        ensures { ListsPlaces self.now.pots (λ p. (p.root ≡ Entry entry) × IsLeftBy self.now.task.machine.steps Pop p.state) result.now }
     {
         self.by_root.row(entry.0)
     }
 
-    /// The places of the pairs at a state.
+    /// The places of the pairs at a state, if a push leaves it.
     pub fn at(&self, state: StateNo) -> &[u64]
         requires { state.0 < self.now.task.machine.states }
-        ensures { ListsPlaces self.now.pots (λ p. p.state ≡ state) result.now }
+        ensures { ListsPlaces self.now.pots (λ p. (p.state ≡ state) × IsLeftBy self.now.task.machine.steps Push p.state) result.now }
     {
         self.by_state.row(state.0)
+    }
+
+    /// Whether a pop may leave the state; false only where none does.
+    pub fn may_pop(&self, state: StateNo) -> bool
+        requires { state.0 < self.now.task.machine.states }
+        ensures { result ≡ false → IsLeftBy self.now.task.machine.steps Pop state → ⊥ }
+    {
+        self.pops[state.0 as usize]
     }
 
     /// The pairs in the order in which they were settled.
@@ -121,8 +177,9 @@ impl<'m, 'a> Table<'m, 'a> {
         ensures pots { IfOk result (λ _. self.new.pots ≡ self.old.pots ++ pot_of next.entry ∷ []) }
     {
         let place = self.items.len() as u64;
-        file_root(&mut self.by_root, next.root, place)?;
-        file(&mut self.by_state, next.state.0, place)?;
+        let (root, state) = (next.root, next.state);
+        file_inner(&mut self.by_root, self.pops.as_slice(), root, state, place)?;
+        file_waiting(&mut self.by_state, self.pushes.as_slice(), state, place)?;
         if self.items.push(next).is_err() {
             return Err(NoMemory);
         }

@@ -1,9 +1,7 @@
-use Rattle.std.proofs.Common.{◌≡◌, ◌<◌, ℕ, List, length, map, slice_get, Some, Contains, arith, sym, subst}
+use Rattle.std.proofs.Common.{◌≡◌, length, slice_get, Some, arith, subst}
 use Rattle.std.specs.List.{All}
 use Rattle.std.proofs.lemmas.List.Sorted.{All-permutation}
-use Rattle.segment_grammar.specs.declared.potentials.Pot.{Pot}
-use Rattle.knuth_search.specs.declared.derived.Derived.{Derived}
-use Rattle.knuth_search.specs.Tables.{pot_of, IsKept}
+use Rattle.knuth_search.specs.Tables.{IsKept}
 use Rattle.knuth_search.specs.Gathered.{Repeats, Lists}
 use Rattle.knuth_search.specs.Settled.{potentials_of, derivs_of}
 use Rattle.knuth_search.proofs.Gathering.{IsGathering, above_last, gathering_turn, gathering_ended, item_of}
