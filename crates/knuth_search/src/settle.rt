@@ -33,12 +33,10 @@ fn stepped(weight: Weight, step: MachineStep) -> Weight
 /// Offers what a flat step makes of the pair.
 fn offer_flat<'m, 'a>(
     setting: Setting<'m, 'a>,
-    table: &Table<'m, 'a>,
     queue: &mut Queue<'m, 'a>,
     prev: Derived<'a>,
     number: StepNo,
 ) -> Result<(), NoMemory>
-    requires table { table.now.task ≡ queue.old.task }
     requires machine { queue.old.task.machine ≡ setting.machine.now }
     requires kept { IsKept queue.old.task prev }
     requires flat { IsStepOf setting.machine.now.steps (IsFlatFrom prev.state) number }
@@ -67,14 +65,12 @@ fn offer_flat<'m, 'a>(
 /// Offers what a nest makes of the pair: a push, an inner pair and a pop.
 fn offer_nest<'m, 'a>(
     setting: Setting<'m, 'a>,
-    table: &Table<'m, 'a>,
     queue: &mut Queue<'m, 'a>,
     prev: Derived<'a>,
     push: StepNo,
     inner: Derived<'a>,
     pop: StepNo,
 ) -> Result<(), NoMemory>
-    requires table { table.now.task ≡ queue.old.task }
     requires machine { queue.old.task.machine ≡ setting.machine.now }
     requires kept { IsKept queue.old.task prev }
     requires inner { IsKept queue.old.task inner }
@@ -113,12 +109,10 @@ fn offer_nest<'m, 'a>(
 /// Offers the state that a push enters as a root, at itself.
 fn open<'m, 'a>(
     setting: Setting<'m, 'a>,
-    table: &Table<'m, 'a>,
     queue: &mut Queue<'m, 'a>,
     prev: Derived<'a>,
     number: StepNo,
 ) -> Result<(), NoMemory>
-    requires table { table.now.task ≡ queue.old.task }
     requires machine { queue.old.task.machine ≡ setting.machine.now }
     requires kept { IsKept queue.old.task prev }
     requires push { IsStepOf setting.machine.now.steps (IsPushFrom prev.state) number }
@@ -147,11 +141,9 @@ fn open<'m, 'a>(
 /// Offers what each flat step makes of the pair.
 fn flats<'m, 'a>(
     setting: Setting<'m, 'a>,
-    table: &Table<'m, 'a>,
     queue: &mut Queue<'m, 'a>,
     prev: Derived<'a>,
 ) -> Result<(), NoMemory>
-    requires table { table.now.task ≡ queue.old.task }
     requires machine { queue.old.task.machine ≡ setting.machine.now }
     requires index { IsIndexOf setting.machine.now setting.index.now }
     requires kept { IsKept queue.old.task prev }
@@ -160,7 +152,7 @@ fn flats<'m, 'a>(
 {
     let numbers = setting.index.flats(prev.state);
     for number in 0..numbers.len() {
-        offer_flat(setting, table, queue, prev, numbers[number])?;
+        offer_flat(setting, queue, prev, numbers[number])?;
     }
     Ok(())
 }
@@ -168,13 +160,11 @@ fn flats<'m, 'a>(
 /// Offers what each pop that matches the push makes of the two pairs.
 fn close<'m, 'a>(
     setting: Setting<'m, 'a>,
-    table: &Table<'m, 'a>,
     queue: &mut Queue<'m, 'a>,
     prev: Derived<'a>,
     push: StepNo,
     inner: Derived<'a>,
 ) -> Result<(), NoMemory>
-    requires table { table.now.task ≡ queue.old.task }
     requires machine { queue.old.task.machine ≡ setting.machine.now }
     requires index { IsIndexOf setting.machine.now setting.index.now }
     requires kept { IsKept queue.old.task prev }
@@ -186,7 +176,7 @@ fn close<'m, 'a>(
     let pushed = setting.machine.step(push);
     let pops = setting.index.pops(inner.state, pushed.frame);
     for number in 0..pops.len() {
-        offer_nest(setting, table, queue, prev, push, inner, pops[number])?;
+        offer_nest(setting, queue, prev, push, inner, pops[number])?;
     }
     Ok(())
 }
@@ -227,7 +217,7 @@ fn nest_at<'m, 'a>(
     if !is_under(inner, pushed.to) {
         return Ok(());
     }
-    close(setting, table, queue, prev, number, inner)?;
+    close(setting, queue, prev, number, inner)?;
     Ok(())
 }
 
@@ -271,7 +261,7 @@ fn push_by<'m, 'a>(
     ensures task { queue.new.task ≡ queue.old.task }
     ensures offers { IfOk result (λ _. Offers (PushedBy setting.entry.machine.now.steps table.now.pots (pot_of prev.entry) number) queue.old queue.new) }
 {
-    open(setting, table, queue, prev, number)?;
+    open(setting, queue, prev, number)?;
     nests(setting, table, queue, prev, number)?;
     Ok(())
 }
@@ -321,7 +311,7 @@ fn fill_at<'m, 'a>(
     if !is_at(prev, pushed.from) {
         return Ok(());
     }
-    close(setting, table, queue, prev, number, inner)?;
+    close(setting, queue, prev, number, inner)?;
     Ok(())
 }
 
@@ -417,7 +407,7 @@ pub fn settle<'m, 'a>(
     ensures task { queue.new.task ≡ queue.old.task }
     ensures offers { IfOk result (λ _. Offers (λ p. Extends setting.entry.machine.now.steps table.now.pots (pot_of next.entry) p ⊎ Fills setting.entry.machine.now.steps table.now.pots (pot_of next.entry) p) queue.old queue.new) }
 {
-    flats(setting, table, queue, next)?;
+    flats(setting, queue, next)?;
     pushes(setting, table, queue, next)?;
     fill(setting, table, queue, next)?;
     Ok(())
