@@ -11,7 +11,7 @@ use Rattle.domain_config.specs.Rules.{Start, rule_lines, AreLaidOut}
 use Rattle.domain_config.proofs.Writes.{at_item, lines_join}
 use Rattle.answer_text.specs.declared.answer.Answer.{Answer}
 use Rattle.answer_text.specs.declared.answer.PotLine.{PotLine}
-use Rattle.answer_text.specs.Spelling.{heading_lines, body_lines, hop_line, hop_lines, pot_line, lines_of, AreHops, ArePots, IsBody, HasBareBody, IsWellFormed}
+use Rattle.answer_text.specs.Spelling.{heading_lines, body_lines, hop_line, hop_lines, pot_line, lines_of, AreHops, ArePots, IsBody, IsWellFormed}
 
 -- ---- hops
 
@@ -67,15 +67,3 @@ body_text a = lines_join (hop_lines 1 a.hops a.flags) _
 
 pub whole_text : (a : Answer) → text_of (lines_of a) ≡ text_of (heading_lines a) ++ (text_of (hop_lines 1 a.hops a.flags) ++ (text_of (rule_lines Start a.rules) ++ (text_of (map pot_line a.potentials) ++ (codes "end" ++ 10 ∷ []))))
 whole_text a = lines_join (heading_lines a) (body_lines a) ∙ ap (λ (t : List ℕ). text_of (heading_lines a) ++ t) (body_text a)
-
-no_rules : (rs : List Rule) → rs ≡ [] → AreLaidOut Start rs
-no_rules rs e = subst (λ (qs : List Rule). AreLaidOut Start qs) (sym e) tt
-
-no_pots : (ps : List PotLine) → ps ≡ [] → ArePots None ps
-no_pots ps e = subst (λ (qs : List PotLine). ArePots None qs) (sym e) tt
-
-pub bare_body : (o : Outcome) (a : Answer) → HasBareBody o a → IsBody o a
-bare_body (outcome.Found cost hops) a h = (h.0, no_rules a.rules h.1, no_pots a.potentials h.2)
-bare_body outcome.NoWalk a h = (h.0, h.1, h.2, no_pots a.potentials h.3)
-bare_body outcome.Past a h = (h.0, h.1, h.2, no_pots a.potentials h.3)
-bare_body (outcome.Long cost hops) a h = (h.0, h.1, h.2, no_pots a.potentials h.3)
