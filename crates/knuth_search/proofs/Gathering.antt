@@ -25,6 +25,7 @@ use Rattle.ml_base.specs.declared.weight.Weight.TheVariants.{Known, Past}
 use Rattle.ml_base.specs.contracts.numbers.RootOrd.TheImpl as root_order
 use Rattle.ml_base.specs.contracts.weight.WeightOrd.TheImpl as weight_order
 use Rattle.knuth_search.proofs.Keys.{state_same}
+use Rattle.knuth_search.proofs.Offering.{number_cases}
 use Rattle.ml_base.specs.Weight.{IsCappedAtMost}
 use Rattle.ml_base.proofs.Laws.{at_most-same, at_most-trans}
 use Rattle.adapt_machine.specs.Machine.{MachineValue}
@@ -187,9 +188,6 @@ pub record IsGathering (task : Task) (items : List Derived) (n : ℕ) (potential
   pub least : (p : Pot) → Contains potentials p → (j : ℕ) (e : Derived) → slice_get items j ≡ Some e → IsOfPair (pot_of e) p.root p.state → IsCappedAtMost p.weight e.weight
   pub all : (i : ℕ) (d : Derived) → i < n → slice_get items i ≡ Some d → HasPair potentials (pot_of d)
 
-pub earlier_or_here : (i n : ℕ) → i < n + 1 → (i < n) ⊎ (i ≡ n)
-earlier_or_here i n l = elim (cases_lt i n) as (λ v. (i < n) ⊎ (i ≡ n)) [ inl a ↦ inl a | inr b ↦ inr (omega arith) ]
-
 trichotomy : (i n : ℕ) → (i < n) ⊎ ((i ≡ n) ⊎ (n < i))
 trichotomy i n = elim (cases_lt i n) as (λ v. (i < n) ⊎ ((i ≡ n) ⊎ (n < i))) [
   | inl a ↦ inl a
@@ -247,7 +245,7 @@ module _ (task : Task) (items : List Derived) (order : AreInOrder items) (kept :
               item = d;
               stands_before = b.1;
               stands = at;
-              same = elim (earlier_or_here f.0 m (omega (arith, f.1))) as (λ v. IsOfPair (pot_of b.0) d.root d.state) [
+              same = elim (number_cases f.0 m (omega (arith, f.1))) as (λ v. IsOfPair (pot_of b.0) d.root d.state) [
                 | inl l ↦ between_same (pot_of f.2.0) (pot_of b.0) (pot_of d) (order f.0 m f.2.0 b.0 l f.2.1 b.1) (order m n b.0 d (omega (arith, f.1)) b.1 at) first
                 | inr e ↦ subst (λ v. IsOfPair (pot_of v) d.root d.state) (same_at items m f.2.0 b.0 (subst (λ i. slice_get items i ≡ Some f.2.0) e f.2.1) b.1) first
               ];
@@ -271,7 +269,7 @@ module _ (task : Task) (items : List Derived) (order : AreInOrder items) (kept :
       derived = is.derived;
       from = λ p c. let f : (i : ℕ) × (i < n) × ((e : Derived) × (slice_get items i ≡ Some e) × (pot_of e ≡ p)) = is.from p c in (f.0, omega (arith, f.1), f.2);
       least = is.least;
-      all = λ i e l x. elim (earlier_or_here i n l) as (λ v. HasPair ps (pot_of e)) [
+      all = λ i e l x. elim (number_cases i n l) as (λ v. HasPair ps (pot_of e)) [
         | inl a ↦ is.all i e a x
         | inr b ↦ has_same (pot_of r.before) (pot_of e)
             (subst (λ v. IsOfPair (pot_of r.before) v.root v.state) (same_at items n r.item e r.stands (subst (λ k. slice_get items k ≡ Some e) b x)) r.same)
@@ -315,7 +313,7 @@ module _ (task : Task) (items : List Derived) (order : AreInOrder items) (kept :
           | inl y ↦ is.least p y j e x same
           | inr f ↦ subst (λ v. IsCappedAtMost v.weight e.weight) f (least_there j e x (subst (λ v. IsOfPair (pot_of e) v.root v.state) (sym f) same))
         ];
-        all = λ i e l x. elim (earlier_or_here i n l) as (λ v. HasPair (ps ++ pot_of d ∷ []) (pot_of e)) [
+        all = λ i e l x. elim (number_cases i n l) as (λ v. HasPair (ps ++ pot_of d ∷ []) (pot_of e)) [
           | inl a ↦ let h : HasPair ps (pot_of e) = is.all i e a x in (h.0, Contains-append_left ps (pot_of d ∷ []) (pot e.root e.state h.0) h.1)
           | inr b ↦ subst (λ v. HasPair (ps ++ pot_of d ∷ []) (pot_of v)) (same_at items n d e at (subst (λ k. slice_get items k ≡ Some e) b x)) (d.weight, Contains-push ps (pot_of d))
         ];

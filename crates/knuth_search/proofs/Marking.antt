@@ -6,7 +6,7 @@ use Rattle.adapt_machine.specs.declared.MachineKind.{MachineKind}
 use Rattle.adapt_machine.specs.declared.MachineStep.{MachineStep}
 use Rattle.segment_grammar.proofs.Places.{slice_get-below, same_at}
 use Rattle.knuth_search.specs.Tables.{AreMarks}
-use Rattle.knuth_search.proofs.Gathering.{earlier_or_here}
+use Rattle.knuth_search.proofs.Offering.{number_cases}
 
 -- the states that those of the first `n` steps leave that are of the kind
 pub record IsMarking (m : MachineValue) (kind : MachineKind) (n : ℕ) (marks : List Bool) : Type 0 where
@@ -21,7 +21,7 @@ module _ (m : MachineValue) (kind : MachineKind) where
       → (step.kind ≡ kind → slice_get new step.from.0 ≡ Some true) → ((i : ℕ) → slice_get old i ≡ Some true → slice_get new i ≡ Some true) → IsMarking m kind (n + 1) new
   marking_turn n old new step found is same here kept = record {
     rooms = omega (arith, same, is.rooms);
-    all = λ k t l at of_kind. elim (earlier_or_here k n l) as (λ v. slice_get new t.from.0 ≡ Some true) [
+    all = λ k t l at of_kind. elim (number_cases k n l) as (λ v. slice_get new t.from.0 ≡ Some true) [
       | inl a ↦ kept t.from.0 (is.all k t a at of_kind)
       | inr e ↦ there t (same_at m.steps n step t found (subst (λ i. slice_get m.steps i ≡ Some t) e at)) of_kind
     ];

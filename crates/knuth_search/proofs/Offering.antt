@@ -1,5 +1,5 @@
 -- Candidates that are offered.
-use Rattle.std.proofs.Common.{◌≡◌, ℕ, ◌+◌, ◌<◌, ◌⊎◌, List, ◌∷◌, length, refl, sym, ◌∙◌, ap, subst, inl, inr, arith, Contains, Some, None, slice_get, zero as nought, suc, slice_index_or}
+use Rattle.std.proofs.Common.{◌≡◌, ℕ, ◌+◌, ◌<◌, ◌⊎◌, List, ◌∷◌, length, sym, ◌∙◌, ap, subst, inl, inr, arith, Contains, Some, None, slice_get, zero as nought, suc, slice_index_or}
 use Rattle.std.proofs.lemmas.Bool.{cases_lt}
 use Rattle.std.proofs.Math.ListN.{get_or}
 use Rattle.ml_base.specs.declared.numbers.StepNo.{StepNo}
@@ -19,12 +19,6 @@ use Rattle.segment_grammar.specs.Index.{ListsSteps, IsPushFrom, IsPushInto, IsPo
 use Rattle.segment_grammar.proofs.Places.{contains_at, at_contains, same_at, slice_get-below}
 use Rattle.knuth_search.specs.Following.{zero, stepped, IsCovered, IsStepOf, FlatBy, OpenedBy, NestedBy, Enters, Meets, Closes, PushedBy, Fills, SomePot, AtPlace, Among, IsOffered, Offers}
 use Rattle.knuth_search.specs.Tables.{Queued, IsLeftBy}
-
-pub contains_head : {X : Type 0} (x : X) (xs : List X) → Contains (x ∷ xs) x
-contains_head x xs = (0, omega arith, refl)
-
-pub contains_tail : {X : Type 0} (x y : X) (xs : List X) → Contains xs y → Contains (x ∷ xs) y
-contains_tail x y xs p = (suc p.0, omega arith, p.2)
 
 pub contains_cases : {X : Type 0} (x y : X) (xs : List X) → Contains (x ∷ xs) y → Contains xs y ⊎ (y ≡ x)
 contains_cases x y xs p = go p.0 p.1 p.2
@@ -62,13 +56,11 @@ offers_then R S U old now new first second back = record {
   all = λ p u. elim (back p u) as (λ v. IsOffered new p) [ inl r ↦ second.kept p (first.all p r) | inr s ↦ second.all p s ];
 }
 
-number_cases : (i n : ℕ) → i < n + 1 → (i < n) ⊎ (i ≡ n)
+-- before a number, or at it
+pub number_cases : (i n : ℕ) → i < n + 1 → (i < n) ⊎ (i ≡ n)
 number_cases i n l = elim (cases_lt i n) as (λ v. (i < n) ⊎ (i ≡ n)) [ inl a ↦ inl a | inr b ↦ inr (omega arith) ]
 
 module _ {X : Type 0} (R : X → Pot → Type 0) (xs : List X) where
-  pub offers_first : (old : Queued) → Offers (Among R xs 0) old old
-  offers_first old = offers_none (Among R xs 0) old (λ p a. let l : a.number < 0 = a.early in omega arith)
-
   among_cases : (n : ℕ) (x : X) → slice_get xs n ≡ Some x → (p : Pot) → Among R xs (n + 1) p → Among R xs n p ⊎ R x p
   among_cases n x found p a = go (number_cases a.number n a.early)
     where

@@ -17,7 +17,7 @@ use Rattle.adapt_machine.specs.Walks.{system_of, weight_of, cost_found}
 use Rattle.segment_grammar.specs.declared.potentials.Pot.{Pot}
 use Rattle.segment_grammar.specs.Pots.{pot, IsOfPair}
 use Rattle.segment_grammar.specs.Index.{step_no, IsPushFrom, IsPopAt}
-use Rattle.segment_grammar.specs.Reached.{origin_of, IsReached, IsLeast}
+use Rattle.segment_grammar.specs.Reached.{origin_of, IsLeast}
 use Rattle.deriv_arena.specs.declared.Deriv.{Deriv}
 use Rattle.deriv_arena.specs.Derivation.{unfolding_of}
 use Rattle.knuth_search.specs.Derived.{Task, IsDerived}
@@ -244,10 +244,3 @@ least_derived task table root state w d complete is least = record {
       let c : IsCovered table (pot root state (weight_of task.machine.steps ks)) = complete root ks state s in
       at_most-trans w c.weight (weight_of task.machine.steps ks) (least (pot root state c.weight) c.listed (refl, refl)) c.at_most;
 }
-
--- a pair that is not listed is not reached
-pub none_reached : (steps : List MachineStep) (starts : List StateNo) (table : List Pot) (root : Root) (state : StateNo) → IsComplete steps starts table
-    → ((p : Pot) → Contains table p → IsOfPair p root state → ⊥) → IsReached steps starts root state → ⊥
-none_reached steps starts table root state complete none is =
-    let c : IsCovered table (pot root state (weight_of steps is.0)) = complete root is.0 state is.1 in
-    none (pot root state c.weight) c.listed (refl, refl)
