@@ -7,7 +7,10 @@ fn sums_are_capped(rt: HostRuntime) -> Result<(), Fail> {
     assert_eq!(rt; dearest.plus(Weight::known(1, 1)), Weight::Past);
     let longest = Weight::known(0, 1099511627776);
     assert_eq!(rt; longest.plus(Weight::known(0, 1)), longest);
-    assert_eq!(rt; Weight::zero().plus(Weight::known(3, 2)), Weight::known(3, 2));
+    assert_eq!(rt;
+        Weight::zero().plus(Weight::known(3, 2)),
+        Weight::known(3, 2)
+    );
     assert!(rt; Weight::known(2, 9).is_at_most(Weight::known(3, 1)));
     assert!(rt; !Weight::known(3, 4).is_at_most(Weight::known(3, 3)));
     assert!(rt; !Weight::Past.is_at_most(dearest));
