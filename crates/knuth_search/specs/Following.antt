@@ -2,13 +2,15 @@
 use Rattle.std.specs.Prelude.{◌≡◌, ℕ, ◌<◌, ◌⊎◌, List, slice_get, Some}
 use Rattle.std.specs.List.{Contains}
 use Rattle.ml_base.specs.declared.numbers.Root.TheVariants.{Entry}
+use Rattle.ml_base.specs.declared.numbers.StateNo.{StateNo}
 use Rattle.ml_base.specs.declared.numbers.StepNo.{StepNo}
 use Rattle.ml_base.specs.declared.weight.Weight.{Weight}
 use Rattle.ml_base.specs.Weight.{cap, capped_total, IsCappedAtMost}
+use Rattle.adapt_machine.specs.Machine.{MachineValue}
 use Rattle.adapt_machine.specs.declared.MachineStep.{MachineStep}
 use Rattle.segment_grammar.specs.declared.potentials.Pot.{Pot}
 use Rattle.segment_grammar.specs.Pots.{pot}
-use Rattle.segment_grammar.specs.Index.{IsFlatFrom, IsPushFrom, IsPopAt}
+use Rattle.segment_grammar.specs.Index.{AreSteps, IsFlatFrom, IsPushFrom, IsPopAt}
 use Rattle.knuth_search.specs.Tables.{Queued, root_key, weight_in}
 
 abbrev pub zero : Weight
@@ -49,6 +51,12 @@ pub record Enters (steps : List MachineStep) (prev : Pot) (k : StepNo) (inner : 
 pub record Meets (steps : List MachineStep) (prev : Pot) (k : StepNo) (inner : Pot) (l : StepNo) : Type 0 where
   pub enters : Enters steps prev k inner
   pub pop : IsStepOf steps (IsPopAt inner.state enters.push.step.frame) l
+
+-- exactly the pops from the state that take off the frame of push `k`
+pub record ArePopsOf (m : MachineValue) (k : StepNo) (state : StateNo) (pops : List StepNo) : Type 0 where
+  pub step : MachineStep
+  pub found : slice_get m.steps k.0 ≡ Some step
+  pub listed : AreSteps m (IsPopAt state step.frame) pops
 
 -- `prev`, push `k`, `inner` and pop `l` give `p`
 pub record NestedBy (steps : List MachineStep) (prev : Pot) (k : StepNo) (inner : Pot) (l : StepNo) (p : Pot) : Type 0 where

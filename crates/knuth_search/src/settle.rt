@@ -3,7 +3,7 @@ ghost use Rattle.ml_base.specs.declared.numbers.Root.TheVariants.{Entry};
 ghost use Rattle.segment_grammar.specs.Index.{IsFlatFrom, IsPushFrom, IsIndexOf};
 ghost use Rattle.adapt_machine.specs.declared.MachineStep.{MachineStep};
 ghost use Rattle.adapt_machine.specs.declared.MachineKind.TheVariants.{Push};
-ghost use Rattle.knuth_search.specs.Following.{stepped, IsStepOf, Enters, Meets, FlatBy, OpenedBy, NestedBy, Closes, PushedBy, Extends, Fills, SomeStep, SomePot, AtPlace, Offers};
+ghost use Rattle.knuth_search.specs.Following.{ArePopsOf, stepped, IsStepOf, Enters, Meets, FlatBy, OpenedBy, NestedBy, Closes, PushedBy, Extends, Fills, SomeStep, SomePot, AtPlace, Offers};
 ghost use Rattle.knuth_search.specs.Tables.{pot_of, IsKept};
 
 use crate::derived::Derived;
@@ -164,17 +164,16 @@ fn close<'m, 'a>(
     prev: Derived<'a>,
     push: StepNo,
     inner: Derived<'a>,
+    pops: &[StepNo],
 ) -> Result<(), NoMemory>
     requires machine { queue.old.task.machine ≡ setting.machine.now }
-    requires index { IsIndexOf setting.machine.now setting.index.now }
     requires kept { IsKept queue.old.task prev }
     requires inner { IsKept queue.old.task inner }
     requires enters { Enters setting.machine.now.steps (pot_of prev) push (pot_of inner) }
+    requires pops { ArePopsOf setting.machine.now push inner.state pops.now }
     ensures task { queue.new.task ≡ queue.old.task }
     ensures offers { IfOk result (λ _. Offers (λ p. Closes setting.entry.machine.now.steps (pot_of prev.entry) push (pot_of inner.entry) p) queue.old queue.new) }
 {
-    let pushed = setting.machine.step(push);
-    let pops = setting.index.pops(inner.state, pushed.frame);
     for number in 0..pops.len() {
         offer_nest(setting, queue, prev, push, inner, pops[number])?;
     }
@@ -217,7 +216,8 @@ fn nest_at<'m, 'a>(
     if !is_under(inner, pushed.to) {
         return Ok(());
     }
-    close(setting, queue, prev, number, inner)?;
+    let pops = setting.index.pops(inner.state, pushed.frame);
+    close(setting, queue, prev, number, inner, pops)?;
     Ok(())
 }
 
@@ -294,12 +294,13 @@ fn fill_at<'m, 'a>(
     queue: &mut Queue<'m, 'a>,
     inner: Derived<'a>,
     number: StepNo,
+    pops: &[StepNo],
     place: u64,
 ) -> Result<(), NoMemory>
     requires table { table.now.task ≡ queue.old.task }
     requires machine { queue.old.task.machine ≡ setting.machine.now }
-    requires index { IsIndexOf setting.machine.now setting.index.now }
     requires inner { IsKept queue.old.task inner }
+    requires pops { ArePopsOf setting.machine.now number inner.state pops.now }
     requires into { (t : MachineStep) × (slice_get setting.machine.now.steps number.0 ≡ Some t) × (t.kind ≡ Push) × (inner.root ≡ Entry t.to) }
     ensures task { queue.new.task ≡ queue.old.task }
     ensures offers { IfOk result (λ _. Offers (AtPlace table.now.pots (λ prev p. Closes setting.entry.machine.now.steps prev number (pot_of inner.entry) p) place) queue.old queue.new) }
@@ -311,7 +312,7 @@ fn fill_at<'m, 'a>(
     if !is_at(prev, pushed.from) {
         return Ok(());
     }
-    close(setting, queue, prev, number, inner)?;
+    close(setting, queue, prev, number, inner, pops)?;
     Ok(())
 }
 
@@ -332,6 +333,7 @@ fn fill_by<'m, 'a>(
     ensures offers { IfOk result (λ _. Offers (λ p. SomePot table.now.pots (λ prev p. Closes setting.entry.machine.now.steps prev number (pot_of inner.entry) p) p) queue.old queue.new) }
 {
     let pushed = setting.machine.step(number);
+    let pops = setting.index.pops(inner.state, pushed.frame);
     let places = table.at(pushed.from);
     for number_of_place in 0..places.len() {
         fill_at(
@@ -340,6 +342,7 @@ fn fill_by<'m, 'a>(
             queue,
             inner,
             number,
+            pops,
             places[number_of_place],
         )?;
     }

@@ -6,6 +6,8 @@ mod index;
 mod laws;
 mod potentials;
 mod rows;
+#[cfg(test)]
+mod tests;
 
 pub use index::Index;
 pub use laws::reached_pairs_are_generated;

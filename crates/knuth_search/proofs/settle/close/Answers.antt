@@ -8,14 +8,14 @@ use Rattle.knuth_search.proofs.Offering.{offers_more, offers_listed, meets_liste
 use Rattle.knuth_search.proofs.settle.close.Goals as goal
 
 pub offer_nest-requires-clause-meets : goal.offer_nest-requires-clause-meets
-offer_nest-requires-clause-meets c = meets_listed c.args.setting.machine.now.steps (pot_of c.args.prev) c.args.push (pot_of c.args.inner) c.step-pushed.result c.step-pushed.ensures.found c.pops-pops.result.now (c.pops-pops.ensures c.args.setting.machine.now c.requires.index) c.requires.enters c.loop-number.number (get_or c.pops-pops.result.now c.loop-number.number (step_no 0)) (slice_get-get_or c.pops-pops.result.now c.loop-number.number (step_no 0) c.loop-number-test.true)
+offer_nest-requires-clause-meets c = meets_listed c.args.setting.machine.now.steps (pot_of c.args.prev) c.args.push (pot_of c.args.inner) c.requires.pops.step c.requires.pops.found c.args.pops.now c.requires.pops.listed c.requires.enters c.loop-number.number (get_or c.args.pops.now c.loop-number.number (step_no 0)) (slice_get-get_or c.args.pops.now c.loop-number.number (step_no 0) c.loop-number-test.true)
 
 pub loop-number-preserved : goal.loop-number-preserved
 loop-number-preserved c = record {
-  offers = offers_more (λ k p. NestedBy c.args.setting.machine.now.steps (pot_of c.args.prev) c.args.push (pot_of c.args.inner) k p) c.pops-pops.result.now c.loop-number.number (get_or c.pops-pops.result.now c.loop-number.number (step_no 0)) (slice_get-get_or c.pops-pops.result.now c.loop-number.number (step_no 0) c.loop-number-test.true) _ _ _ c.loop-number.invariant.offers c.in_ok-offer_nest.ensures.offers;
+  offers = offers_more (λ k p. NestedBy c.args.setting.machine.now.steps (pot_of c.args.prev) c.args.push (pot_of c.args.inner) k p) c.args.pops.now c.loop-number.number (get_or c.args.pops.now c.loop-number.number (step_no 0)) (slice_get-get_or c.args.pops.now c.loop-number.number (step_no 0) c.loop-number-test.true) _ _ _ c.loop-number.invariant.offers c.in_ok-offer_nest.ensures.offers;
   task = c.offer_nest.ensures.task ∙ c.loop-number.invariant.task;
 }
 
 pub returns-clause-offers : goal.returns-clause-offers
-returns-clause-offers c = offers_listed (λ k p. NestedBy c.args.setting.machine.now.steps (pot_of c.args.prev) c.args.push (pot_of c.args.inner) k p) c.pops-pops.result.now (λ p. Closes c.args.setting.machine.now.steps (pot_of c.args.prev) c.args.push (pot_of c.args.inner) p) c.loop-number.number (omega arith)
-    (λ p s. closes_listed c.args.setting.machine.now.steps (pot_of c.args.prev) c.args.push (pot_of c.args.inner) c.step-pushed.result c.step-pushed.ensures.found c.pops-pops.result.now (c.pops-pops.ensures c.args.setting.machine.now c.requires.index) p s) _ _ c.loop-number.invariant.offers
+returns-clause-offers c = offers_listed (λ k p. NestedBy c.args.setting.machine.now.steps (pot_of c.args.prev) c.args.push (pot_of c.args.inner) k p) c.args.pops.now (λ p. Closes c.args.setting.machine.now.steps (pot_of c.args.prev) c.args.push (pot_of c.args.inner) p) c.loop-number.number (omega arith)
+    (λ p s. closes_listed c.args.setting.machine.now.steps (pot_of c.args.prev) c.args.push (pot_of c.args.inner) c.requires.pops.step c.requires.pops.found c.args.pops.now c.requires.pops.listed p s) _ _ c.loop-number.invariant.offers

@@ -7,6 +7,9 @@ use Rattle.knuth_search.proofs.Offering.{offers_more, offers_listed, from_here, 
 use Rattle.adapt_machine.specs.declared.MachineKind.TheVariants.{Push}
 use Rattle.knuth_search.proofs.settle.fill_by.Goals as goal
 
+pub fill_at-requires-clause-pops : goal.fill_at-requires-clause-pops
+fill_at-requires-clause-pops c = record { step = c.step-pushed.result; found = c.step-pushed.ensures.found; listed = c.pops-pops.ensures c.args.setting.machine.now c.requires.index }
+
 pub loop-number_of_place-preserved : goal.loop-number_of_place-preserved
 loop-number_of_place-preserved c = record {
   offers = offers_more (λ i p. AtPlace c.args.table.now.pots (λ prev p. Closes c.args.setting.machine.now.steps prev c.args.number (pot_of c.args.inner) p) i p) c.at-places.result.now c.loop-number_of_place.number_of_place (get_or c.at-places.result.now c.loop-number_of_place.number_of_place 0) (slice_get-get_or c.at-places.result.now c.loop-number_of_place.number_of_place 0 c.loop-number_of_place-test.true) _ _ _ c.loop-number_of_place.invariant.offers c.in_ok-fill_at.ensures.offers;

@@ -7,6 +7,9 @@ use Rattle.knuth_search.proofs.settle.nest_at.Goals as goal
 pub close-requires-clause-enters : goal.close-requires-clause-enters
 close-requires-clause-enters c = enters_here c.args.setting.machine.now.steps (pot_of c.args.prev) c.args.number (pot_of c.in-Some.inner) c.step-pushed.result c.step-pushed.ensures.found c.requires.push (accepted c.is_under.result c.is_under.ensures c.if-not-is_under.false)
 
+pub close-requires-clause-pops : goal.close-requires-clause-pops
+close-requires-clause-pops c = record { step = c.step-pushed.result; found = c.step-pushed.ensures.found; listed = c.pops-pops.ensures c.args.setting.machine.now c.requires.index }
+
 pub returns-clause-offers : goal.returns-clause-offers
 returns-clause-offers c = offers_at c.args.table.now.pots (λ inner p. Closes c.args.setting.machine.now.steps (pot_of c.args.prev) c.args.number inner p) c.args.place (pot_of c.in-Some.inner) c.in-Some.ensures.some _ _ c.in_ok-close.ensures.offers
 
