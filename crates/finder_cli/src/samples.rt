@@ -6,6 +6,12 @@ use std::alloc::{AllocError, Global};
 const ONE: &str =
     "{\"elements\":[{\"id\":\"a\",\"isSource\":[\"l\"],\"type\":\"Port\"},{\"id\":\"b\",\"isSink\":[\"l\"],\"type\":\"Port\"},{\"id\":\"l\",\"type\":\"Link\"}],\"format\":1,\"topology\":\"d\"}";
 
+const TWO: &str =
+    "{\"elements\":[{\"id\":\"a\",\"isSource\":[\"l1\",\"l2\"],\"type\":\"Port\"},{\"id\":\"b\",\"isSink\":[\"l1\",\"l2\"],\"type\":\"Port\"},{\"cost\":3,\"id\":\"l1\",\"type\":\"Link\"},{\"cost\":2,\"id\":\"l2\",\"type\":\"Link\"}],\"format\":1,\"topology\":\"d\"}";
+
+const THREE: &str =
+    "{\"elements\":[{\"id\":\"a\",\"isSource\":[\"l\",\"l1\"],\"type\":\"Port\"},{\"id\":\"b\",\"isSink\":[\"l1\"],\"isSource\":[\"l2\"],\"type\":\"Port\"},{\"id\":\"c\",\"isSink\":[\"l2\"],\"isSource\":[\"l3\"],\"type\":\"Port\"},{\"id\":\"z\",\"isSink\":[\"l\",\"l3\"],\"type\":\"Port\"},{\"cost\":9,\"id\":\"l\",\"type\":\"Link\"},{\"id\":\"l1\",\"type\":\"Link\"},{\"id\":\"l2\",\"type\":\"Link\"},{\"id\":\"l3\",\"type\":\"Link\"}],\"format\":1,\"topology\":\"d\"}";
+
 const BIG: &str =
     "{\"elements\":[{\"id\":\"a\",\"isSource\":[\"l1\"],\"type\":\"Port\"},{\"id\":\"b\",\"isSink\":[\"l1\"],\"isSource\":[\"l2\"],\"type\":\"Port\"},{\"id\":\"c\",\"isSink\":[\"l2\"],\"type\":\"Port\"},{\"cost\":18446744073709551615,\"id\":\"l1\",\"type\":\"Link\"},{\"id\":\"l2\",\"type\":\"Link\"}],\"format\":1,\"topology\":\"d\"}";
 
@@ -17,6 +23,9 @@ const TUNNEL: &str =
 
 const E: &str =
     "{\"elements\":[{\"id\":\"m\",\"type\":\"Link\"},{\"id\":\"a\",\"type\":\"Port\"}],\"format\":1,\"topology\":\"e\"}";
+
+const NODE: &str =
+    "{\"elements\":[{\"id\":\"a\",\"type\":\"Port\"},{\"id\":\"b\",\"type\":\"Port\"},{\"hasInboundPort\":[\"a\"],\"hasOutboundPort\":[\"b\"],\"hasService\":[\"s\"],\"id\":\"n\",\"type\":\"Node\"},{\"id\":\"s\",\"type\":\"SwitchingService\"}],\"format\":1,\"topology\":\"d\"}";
 
 const MIXED: &str =
     "{\"elements\":[{\"id\":\"a\",\"encoding\":\"eth\",\"isSource\":[\"l\"],\"type\":\"Port\"},{\"id\":\"b\",\"encoding\":\"otn\",\"isSink\":[\"l\"],\"type\":\"Port\"},{\"id\":\"l\",\"type\":\"Link\"}],\"format\":1,\"topology\":\"d\"}";
@@ -30,6 +39,12 @@ const VLAN: &str =
 const SWAP: &str =
     "{\"elements\":[{\"hasLabelGroup\":{\"labeltype\":\"vlan\",\"values\":\"100-200\"},\"id\":\"p\",\"type\":\"PortGroup\"},{\"hasLabelGroup\":{\"labeltype\":\"vlan\",\"values\":\"100-200\"},\"id\":\"q\",\"type\":\"PortGroup\"},{\"hasInboundPort\":[\"p\"],\"hasOutboundPort\":[\"q\"],\"id\":\"s\",\"labelSwapping\":true,\"type\":\"SwitchingService\"}],\"format\":1,\"topology\":\"d\"}";
 
+const OTHER_FUNCTION: &str =
+    "{\"elements\":[{\"encoding\":\"eth\",\"id\":\"c1\",\"type\":\"Port\"},{\"encoding\":\"otn\",\"hasService\":[\"ad\"],\"id\":\"s1\",\"isSource\":[\"t\"],\"type\":\"Port\"},{\"encoding\":\"otn\",\"hasService\":[\"de\"],\"id\":\"s2\",\"isSink\":[\"t\"],\"type\":\"Port\"},{\"encoding\":\"eth\",\"id\":\"c2\",\"type\":\"Port\"},{\"adaptationFunction\":\"gfp\",\"id\":\"ad\",\"providesPort\":[\"c1\"],\"type\":\"AdaptationService\"},{\"adaptationFunction\":\"ppp\",\"id\":\"de\",\"providesPort\":[\"c2\"],\"type\":\"DeadaptationService\"},{\"id\":\"t\",\"type\":\"Link\"}],\"format\":1,\"topology\":\"d\"}";
+
+const LABELLED_TUNNEL: &str =
+    "{\"elements\":[{\"encoding\":\"eth\",\"hasLabelGroup\":{\"labeltype\":\"vlan\",\"values\":\"100-110\"},\"id\":\"c1\",\"type\":\"PortGroup\"},{\"encoding\":\"otn\",\"hasService\":[\"ad\"],\"id\":\"s1\",\"isSource\":[\"t\"],\"type\":\"Port\"},{\"encoding\":\"otn\",\"hasService\":[\"de\"],\"id\":\"s2\",\"isSink\":[\"t\"],\"type\":\"Port\"},{\"encoding\":\"eth\",\"hasLabelGroup\":{\"labeltype\":\"vlan\",\"values\":\"105-120\"},\"id\":\"c2\",\"type\":\"PortGroup\"},{\"adaptationFunction\":\"gfp\",\"id\":\"ad\",\"providesPort\":[\"c1\"],\"type\":\"AdaptationService\"},{\"adaptationFunction\":\"gfp\",\"id\":\"de\",\"providesPort\":[\"c2\"],\"type\":\"DeadaptationService\"},{\"id\":\"t\",\"type\":\"Link\"}],\"format\":1,\"topology\":\"d\"}";
+
 const AGAIN: &str =
     "{\"elements\":[{\"id\":\"x1\",\"type\":\"Port\"},{\"id\":\"m1\",\"type\":\"Port\"},{\"id\":\"y1\",\"type\":\"Port\"},{\"hasService\":[\"f\",\"g\"],\"id\":\"x0\",\"isSource\":[\"l\"],\"type\":\"Port\"},{\"hasService\":[\"u\",\"v\"],\"id\":\"y0\",\"isSink\":[\"l\"],\"type\":\"Port\"},{\"adaptationFunction\":\"F\",\"id\":\"f\",\"providesPort\":[\"x1\"],\"type\":\"AdaptationService\"},{\"adaptationFunction\":\"G\",\"id\":\"g\",\"providesPort\":[\"m1\"],\"type\":\"AdaptationService\"},{\"adaptationFunction\":\"F\",\"id\":\"u\",\"providesPort\":[\"m1\"],\"type\":\"DeadaptationService\"},{\"adaptationFunction\":\"G\",\"id\":\"v\",\"providesPort\":[\"y1\"],\"type\":\"DeadaptationService\"},{\"id\":\"l\",\"type\":\"Link\"}],\"format\":1,\"topology\":\"d\"}";
 
@@ -38,13 +53,18 @@ pub fn stored(alloc: Global) -> Result<MemFiles, NoMemory> {
     let mut files = MemFiles::new(alloc);
     let all = [
         ("one.json", ONE),
+        ("two.json", TWO),
+        ("three.json", THREE),
         ("big.json", BIG),
         ("zero.json", ZERO),
         ("tunnel.json", TUNNEL),
+        ("other.json", OTHER_FUNCTION),
+        ("labelled.json", LABELLED_TUNNEL),
         ("again.json", AGAIN),
         ("vlan.json", VLAN),
         ("swap.json", SWAP),
         ("e.json", E),
+        ("node.json", NODE),
         ("mixed.json", MIXED),
         ("wrong.json", WRONG),
     ];

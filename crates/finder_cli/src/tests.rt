@@ -26,6 +26,20 @@ fn ends_so(
     Ok(ended == status && out.written() == printed.as_bytes())
 }
 
+/// The words of the first row that, over the stored files, do not end with its status or do not print its text.
+fn first_that_differs<'a>(
+    alloc: Global,
+    rows: &[(&'a str, u8, &str)],
+) -> Result<Option<&'a str>, Fail> {
+    for &(words, status, printed) in rows {
+        let mut files = stored(alloc)?;
+        if !ends_so(alloc, words, &mut files, status, printed)? {
+            return Ok(Some(words));
+        }
+    }
+    Ok(None)
+}
+
 #[test]
 fn searches(rt: HostRuntime) -> Result<(), Fail> {
     let alloc = rt.alloc();
@@ -71,13 +85,56 @@ fn searches(rt: HostRuntime) -> Result<(), Fail> {
             "circuit 1\nrequest a any c any\noutcome found 0 2\nhop 1 link l1 a - b - d\nhop 2 link l3 b - c - d\ndomain d\nrule 1 carry l1 a - b -\nrule 2 carry l3 b - c -\ntop a - 0 0\ntop b - 0 1\ntop c - 0 2\nend\n",
         ),
     ];
-    for (words, status, printed) in cases {
-        let mut files = stored(alloc)?;
-        assert!(rt;
-            ends_so(alloc, words, &mut files, status, printed)?,
-            "{words}"
-        );
-    }
+    assert_eq!(rt; first_that_differs(alloc, &cases)?, None);
+    Ok(())
+}
+
+#[test]
+fn searches_by_cost_label_and_layer(rt: HostRuntime) -> Result<(), Fail> {
+    let alloc = rt.alloc();
+    let cases = [
+        (
+            "find a any a any one.json",
+            0,
+            "circuit 1\nrequest a any a any\noutcome found 0 0\ntop a - 0 0\ntop b - 1 1\nend\n",
+        ),
+        (
+            "find a any b any two.json",
+            0,
+            "circuit 1\nrequest a any b any\noutcome found 2 1\nhop 1 link l2 a - b - d\ndomain d\nrule 1 carry l2 a - b -\ntop a - 0 0\ntop b - 2 1\nend\n",
+        ),
+        (
+            "find a any z any three.json",
+            0,
+            "circuit 1\nrequest a any z any\noutcome found 3 3\nhop 1 link l1 a - b - d\nhop 2 link l2 b - c - d\nhop 3 link l3 c - z - d\ndomain d\nrule 1 carry l1 a - b -\nrule 2 carry l2 b - c -\nrule 3 carry l3 c - z -\ntop a - 0 0\ntop b - 1 1\ntop c - 2 2\ntop z - 3 3\nend\n",
+        ),
+        (
+            "find a any b any big.json",
+            0,
+            "circuit 1\nrequest a any b any\noutcome found 18446744073709551615 1\nhop 1 link l1 a - b - d\ndomain d\nrule 1 carry l1 a - b -\ntop a - 0 0\ntop b - 18446744073709551615 1\ntop c - past -\nend\n",
+        ),
+        (
+            "find c1 any c2 any other.json",
+            1,
+            "circuit 1\nrequest c1 any c2 any\noutcome none\ntop c1 - 0 0\nseg s1 - s1 - 0 0\nseg s1 - s2 - 1 1\nend\n",
+        ),
+        (
+            "find c1 any c2 any labelled.json",
+            0,
+            "circuit 1\nrequest c1 any c2 any\noutcome found 3 3\nhop 1 adapt ad c1 105 s1 - d\nhop 2 link t s1 - s2 - d\nhop 3 deadapt de s2 - c2 105 d\ndomain d\nrule 1 wrap ad c1 105 s1 -\nrule 2 carry t s1 - s2 -\nrule 3 unwrap de s2 - c2 105\ntop c1 100 0 0\ntop c1 105 0 0\ntop c2 105 3 3\nseg s1 - s1 - 0 0\nseg s1 - s2 - 1 1\nend\n",
+        ),
+        (
+            "find p 100 q 200 vlan.json",
+            1,
+            "circuit 1\nrequest p 100 q 200\noutcome none\ntop p 100 0 0\ntop q 100 1 1\nend\n",
+        ),
+        (
+            "find a any b any node.json",
+            0,
+            "circuit 1\nrequest a any b any\noutcome found 1 1\nhop 1 cross s a - b - d\ndomain d\nrule 1 connect s a - b -\ntop a - 0 0\ntop b - 1 1\nend\n",
+        ),
+    ];
+    assert_eq!(rt; first_that_differs(alloc, &cases)?, None);
     Ok(())
 }
 
@@ -121,13 +178,7 @@ fn refusals(rt: HostRuntime) -> Result<(), Fail> {
             "survey\ndomain d 7\nports 4\nclasses 4\nlinks 1\nservices 2\nopen-references 0\n",
         ),
     ];
-    for (words, status, printed) in cases {
-        let mut files = stored(alloc)?;
-        assert!(rt;
-            ends_so(alloc, words, &mut files, status, printed)?,
-            "{words}"
-        );
-    }
+    assert_eq!(rt; first_that_differs(alloc, &cases)?, None);
     Ok(())
 }
 
