@@ -48,10 +48,18 @@ impl Machine {
     pub fn new(alloc: Global, states: u64, frames: u64) -> Machine
         ensures { result ≡ empty_machine states frames }
     {
+        Machine::of_steps(states, frames, Vec::new(alloc))
+    }
+
+    /// A machine of this many states and frames, with these steps. Their numbers must be below those.
+    pub fn of_steps(states: u64, frames: u64, steps: Vec<MachineStep>) -> Machine
+        requires { All (IsStepWithin states frames) steps.items }
+        ensures { result ≡ record { states = states; frames = frames; steps = steps.items } }
+    {
         Machine {
             state_count: states,
             frame_count: frames,
-            list: Vec::new(alloc),
+            list: steps,
         }
     }
 
@@ -69,9 +77,10 @@ impl Machine {
         self.frame_count
     }
 
-    /// The number of steps.
+    /// The number of steps. The numbers of each are below the machine's.
     pub fn steps(&self) -> u64
-        ensures { result ≡ length self.now.steps }
+        ensures count { result ≡ length self.now.steps }
+        ensures within { All (IsStepWithin self.now.states self.now.frames) self.now.steps }
     {
         self.list.len() as u64
     }
@@ -163,6 +172,7 @@ impl Machine {
 #[cfg(test)]
 mod tests {
     use super::*;
+    use std::alloc::AllocError;
 
     #[test]
     fn the_first_step_has_place_0(rt: HostRuntime) -> Result<(), NoMemory> {
@@ -173,6 +183,24 @@ mod tests {
         assert_eq!(rt;
             (machine.states(), machine.frames(), machine.steps()),
             (2, 0, 1)
+        );
+        Ok(())
+    }
+
+    #[test]
+    fn a_machine_is_made_of_its_steps(rt: HostRuntime) -> Result<(), AllocError> {
+        let step = MachineStep {
+            kind: MachineKind::Pop,
+            from: StateNo(1),
+            to: StateNo(0),
+            frame: FrameNo(2),
+            cost: 7,
+        };
+        let machine = Machine::of_steps(2, 3, vec![in rt.alloc(); step]?);
+        assert_eq!(rt; machine.step(StepNo(0)), step);
+        assert_eq!(rt;
+            (machine.states(), machine.frames(), machine.steps()),
+            (2, 3, 1)
         );
         Ok(())
     }
