@@ -19,13 +19,13 @@ use Rattle.machine_build.specs.declared.ways.Move.{Move}
 use Rattle.machine_build.specs.Adding.{AreMoves, HasWay}
 use Rattle.machine_build.specs.Built.{BuiltValue, IsDoneBy, IsHopAt, IsState, MovesBy, kind_of}
 use Rattle.machine_build.specs.Frames.{IsFramed, step_kind}
-use Rattle.machine_build.specs.Ways.{AreOpen, IsDone, IsEnd, IsWay, Way, site_by, site_of, step_by, step_of, way_of}
+use Rattle.machine_build.specs.Ways.{AreOpen, IsDone, IsEnd, IsWay, Way, far_by, from_of, near_by, site_by, site_of, step_by, step_of, to_of, way_of}
 use Rattle.machine_build.proofs.Crossed.{one_class}
 use Rattle.machine_build.proofs.Fitting.{one_state, same_place}
 use Rattle.machine_build.proofs.Items.{at_contains, at_mapped, mapped_at, same_at}
 use Rattle.machine_build.proofs.Listed.{among_place, place_among}
 use Rattle.machine_build.proofs.Named.{element_found, element_id, element_numbered, one_element, one_number, same_class}
-use Rattle.machine_build.proofs.Passages.{IsFramedBy, Passage, Passes, Related, Sides, far_by, far_is, from_is, from_of, kind_is, makes_hops, moved, near_by, near_is, passage, rule_related, sides, site_element, step_cost, to_is, to_of}
+use Rattle.machine_build.proofs.Passages.{IsFramedBy, Passage, Passes, Related, Sides, far_is, from_is, kind_is, makes_hops, moved, near_is, passage, rule_related, sides, site_element, step_cost, to_is}
 
 module _ (T : Topology) (places : List PlaceName) (frames : List Frame) where
   -- what is known of a move and of its hop

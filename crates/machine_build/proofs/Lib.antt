@@ -1,5 +1,6 @@
 pub mod Items
 pub mod Growing
+pub mod Parts
 pub mod Fitting
 pub mod Listed
 pub mod Crossed

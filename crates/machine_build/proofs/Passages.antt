@@ -19,13 +19,11 @@ use Rattle.circuit_spec.proofs.Alone.{found_port}
 use Rattle.circuit_spec.proofs.Among.{IsAmong, any_among}
 use Rattle.adapt_machine.specs.declared.MachineKind.{MachineKind}
 use Rattle.adapt_machine.specs.declared.MachineKind.TheVariants.{Flat, Push, Pop}
-use Rattle.adapt_machine.specs.declared.MachineStep.{MachineStep}
-use Rattle.machine_build.specs.declared.built.Site.{Site}
 use Rattle.machine_build.specs.declared.ways.End.{End}
 use Rattle.machine_build.specs.declared.ways.Move.{Move}
 use Rattle.machine_build.specs.Built.{MovesBy, kind_of}
 use Rattle.machine_build.specs.Frames.{IsFramed, step_kind}
-use Rattle.machine_build.specs.Ways.{IsEnd, Lets, carries, changes, is_far, is_near, site_by, step_by, takes}
+use Rattle.machine_build.specs.Ways.{IsEnd, Lets, carries, changes, far_by, from_of, is_far, is_near, near_by, site_by, step_by, takes, to_of}
 use Rattle.machine_build.proofs.Items.{one_of_some}
 use Rattle.machine_build.proofs.Named.{port_of_class}
 
@@ -53,22 +51,6 @@ IsFramedBy frames (element.Node n) from x to y number = Unit {0}
 IsFramedBy frames (element.Port p) from x to y number = Unit {0}
 
 -- Directions
-
-abbrev pub near_by : MachineKind → End → End → End
-near_by Flat from to = from
-near_by Push from to = from
-near_by Pop from to = to
-
-abbrev pub far_by : MachineKind → End → End → End
-far_by Flat from to = to
-far_by Push from to = to
-far_by Pop from to = from
-
-abbrev pub from_of : MachineStep → Site → End
-from_of t s = record { port = s.from; state = t.from }
-
-abbrev pub to_of : MachineStep → Site → End
-to_of t s = record { port = s.to; state = t.to }
 
 pub near_is : (k : MachineKind) (m : Move) → m.near ≡ near_by k (from_of (step_by k m) (site_by k m)) (to_of (step_by k m) (site_by k m))
 near_is Flat m = refl

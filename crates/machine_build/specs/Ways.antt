@@ -4,7 +4,8 @@
 --   IsWay              a way through an element that hops take
 --   IsDone             what a move does and costs
 --   AreFitting         the states of a class with the labels that an element lets through
-use Rattle.std.specs.Prelude.{◌≡◌, ◌≢◌, ◌↔◌, ◌⊎◌, ℕ, ◌<◌, ◌≤◌, List, Bool, true, false, None, Some, length, slice_get}
+--   moves_by           the moves of steps and sites
+use Rattle.std.specs.Prelude.{◌≡◌, ◌↔◌, ◌⊎◌, ℕ, ◌<◌, ◌≤◌, List, [], ◌∷◌, Bool, true, false, None, Some, length, slice_get}
 use Rattle.nml_elements.specs.declared.elements.Element.{Element}
 use Rattle.nml_elements.specs.declared.elements.Element.TheVariants as element
 use Rattle.nml_elements.specs.declared.elements.Labels.{Labels}
@@ -23,7 +24,7 @@ use Rattle.open_places.specs.Places.{PlacesValue, IsRising}
 use Rattle.adapt_machine.specs.declared.MachineKind.{MachineKind}
 use Rattle.adapt_machine.specs.declared.MachineKind.TheVariants.{Flat, Push, Pop}
 use Rattle.adapt_machine.specs.declared.MachineStep.{MachineStep}
-use Rattle.adapt_machine.specs.Machine.{MachineValue, flat_step, push_step, pop_step}
+use Rattle.adapt_machine.specs.Machine.{push_step, pop_step}
 use Rattle.machine_build.specs.declared.built.Site.{Site}
 use Rattle.machine_build.specs.declared.ways.Crossing.{Crossing}
 use Rattle.machine_build.specs.declared.ways.End.{End}
@@ -200,18 +201,42 @@ abbrev pub site_of : Move → Site
 site_of m = site_by m.effect.kind m
 
 abbrev pub step_by : MachineKind → Move → MachineStep
-step_by Flat m = flat_step m.near.state m.far.state m.effect.cost
+step_by Flat m = record { kind = Flat; from = m.near.state; to = m.far.state; frame = m.effect.frame; cost = m.effect.cost }
 step_by Push m = push_step m.near.state m.far.state m.effect.frame m.effect.cost
 step_by Pop m = pop_step m.far.state m.near.state m.effect.frame m.effect.cost
 
 abbrev pub step_of : Move → MachineStep
 step_of m = step_by m.effect.kind m
 
-abbrev pub machine_by : ℕ → ℕ → List MachineStep → MachineValue
-machine_by states frames steps = record { states = states; frames = frames; steps = steps }
+-- the end that a step of this site leaves, and the one that it enters
+abbrev pub from_of : MachineStep → Site → End
+from_of t s = record { port = s.from; state = t.from }
 
--- the numbers of the move are those of states and frames
-pub record IsMoveWithin (states frames : ℕ) (m : Move) : Type 0 where
-  pub near : m.near.state.0 < states
-  pub far : m.far.state.0 < states
-  pub frame : m.effect.kind ≢ Flat → m.effect.frame.0 < frames
+abbrev pub to_of : MachineStep → Site → End
+to_of t s = record { port = s.to; state = t.to }
+
+-- the near and the far one of these two
+abbrev pub near_by : MachineKind → End → End → End
+near_by Flat from to = from
+near_by Push from to = from
+near_by Pop from to = to
+
+abbrev pub far_by : MachineKind → End → End → End
+far_by Flat from to = to
+far_by Push from to = to
+far_by Pop from to = from
+
+-- the move of a step and its site
+abbrev pub move_of : MachineStep → Site → Move
+move_of t s = record {
+  element = s.element;
+  near = near_by t.kind (from_of t s) (to_of t s);
+  far = far_by t.kind (from_of t s) (to_of t s);
+  effect = record { kind = t.kind; frame = t.frame; cost = t.cost };
+}
+
+-- the moves of steps, each with the site at its place
+abbrev pub moves_by : List MachineStep → List Site → List Move
+moves_by [] sites = []
+moves_by (t ∷ ts) [] = []
+moves_by (t ∷ ts) (s ∷ ss) = move_of t s ∷ moves_by ts ss

@@ -6,6 +6,7 @@ ghost use Rattle.machine_build.specs.Frames.{GoesOn};
 ghost use Rattle.machine_build.specs.Ways.{GoesFrom, HaveSpans, IsDone, IsFarPort, IsNearPort, IsNearEnd, IsWay};
 
 use crate::frames::effect_of;
+use crate::moves::Moves;
 use crate::sides::{changes, far_ports, fitting, near_ports, takes};
 use crate::ways::{Crossing, End, Move};
 use circuit_spec::Frame;
@@ -16,8 +17,8 @@ use open_places::Places;
 use std::alloc::Global;
 
 /// Adds the move from the near end of a crossing to a far end.
-fn add_move(moves: &mut Vec<Move>, crossing: Crossing, far: End) -> Result<(), NoMemory>
-    ensures { IfOk result (λ _. Adds (λ w. (w.element ≡ crossing.element) × (w.near ≡ crossing.near) × (w.far ≡ far)) (λ m. m.effect ≡ crossing.effect) moves.old.items moves.new.items) }
+fn add_move(moves: &mut Moves, crossing: Crossing, far: End) -> Result<(), NoMemory>
+    ensures { IfOk result (λ _. Adds (λ w. (w.element ≡ crossing.element) × (w.near ≡ crossing.near) × (w.far ≡ far)) (λ m. m.effect ≡ crossing.effect) moves.old moves.new) }
 {
     let added = Move {
         element: crossing.element,
@@ -25,9 +26,7 @@ fn add_move(moves: &mut Vec<Move>, crossing: Crossing, far: End) -> Result<(), N
         far,
         effect: crossing.effect,
     };
-    let Ok(()) = moves.push(added) else {
-        return Err(NoMemory);
-    };
+    moves.push(added)?;
     Ok(())
 }
 
@@ -35,13 +34,13 @@ fn add_move(moves: &mut Vec<Move>, crossing: Crossing, far: End) -> Result<(), N
 fn add_far_port(
     inventory: &Inventory,
     places: &Places,
-    moves: &mut Vec<Move>,
+    moves: &mut Moves,
     crossing: Crossing,
     port: PortNo,
 ) -> Result<(), NoMemory>
     requires port { port.0 < length (ports inventory.now) }
     requires places { HaveSpans inventory.now places.now }
-    ensures { IfOk result (λ _. Adds (λ w. GoesFrom inventory.now places.now.places crossing w × (w.far.port ≡ port)) (λ m. m.effect ≡ crossing.effect) moves.old.items moves.new.items) }
+    ensures { IfOk result (λ _. Adds (λ w. GoesFrom inventory.now places.now.places crossing w × (w.far.port ≡ port)) (λ m. m.effect ≡ crossing.effect) moves.old moves.new) }
 {
     let span = fitting(inventory, places, port, crossing.any, crossing.label);
     for state in span.first..span.end {
@@ -58,12 +57,12 @@ fn add_far_port(
 fn add_far_side(
     inventory: &Inventory,
     places: &Places,
-    moves: &mut Vec<Move>,
+    moves: &mut Moves,
     crossing: Crossing,
 ) -> Result<(), NoMemory>
     requires element { crossing.element < length (elements_of inventory.now) }
     requires places { HaveSpans inventory.now places.now }
-    ensures { IfOk result (λ _. Adds (λ w. GoesFrom inventory.now places.now.places crossing w × IsFarPort inventory.now crossing.element w.far.port.0) (λ m. m.effect ≡ crossing.effect) moves.old.items moves.new.items) }
+    ensures { IfOk result (λ _. Adds (λ w. GoesFrom inventory.now places.now.places crossing w × IsFarPort inventory.now crossing.element w.far.port.0) (λ m. m.effect ≡ crossing.effect) moves.old moves.new) }
 {
     inventory.is_merged();
     let ports = far_ports(inventory, crossing.element);
@@ -78,7 +77,7 @@ fn add_near_end(
     inventory: &Inventory,
     places: &Places,
     frames: &mut IndexSet<Frame>,
-    moves: &mut Vec<Move>,
+    moves: &mut Moves,
     number: u64,
     near: End,
 ) -> Result<(), NoMemory>
@@ -86,7 +85,7 @@ fn add_near_end(
     requires near { IsNearEnd inventory.now places.now.places number near }
     requires places { HaveSpans inventory.now places.now }
     ensures on { OnOk result (GoesOn frames.old.keys frames.new.keys) }
-    ensures adds { IfOk result (λ _. Adds (λ w. IsWay inventory.now places.now.places w × (w.element ≡ number) × (w.near ≡ near)) (IsDone inventory.now places.now.places frames.new.keys) moves.old.items moves.new.items) }
+    ensures adds { IfOk result (λ _. Adds (λ w. IsWay inventory.now places.now.places w × (w.element ≡ number) × (w.near ≡ near)) (IsDone inventory.now places.now.places frames.new.keys) moves.old moves.new) }
 {
     let label = places.place(near.state).label;
     let Some(element) = inventory.element(number) else {
@@ -112,7 +111,7 @@ fn add_near_port(
     inventory: &Inventory,
     places: &Places,
     frames: &mut IndexSet<Frame>,
-    moves: &mut Vec<Move>,
+    moves: &mut Moves,
     number: u64,
     port: PortNo,
 ) -> Result<(), NoMemory>
@@ -120,7 +119,7 @@ fn add_near_port(
     requires near { IsNearPort inventory.now number port.0 }
     requires places { HaveSpans inventory.now places.now }
     ensures on { OnOk result (GoesOn frames.old.keys frames.new.keys) }
-    ensures adds { IfOk result (λ _. Adds (λ w. IsWay inventory.now places.now.places w × (w.element ≡ number) × (w.near.port ≡ port)) (IsDone inventory.now places.now.places frames.new.keys) moves.old.items moves.new.items) }
+    ensures adds { IfOk result (λ _. Adds (λ w. IsWay inventory.now places.now.places w × (w.element ≡ number) × (w.near.port ≡ port)) (IsDone inventory.now places.now.places frames.new.keys) moves.old moves.new) }
 {
     let span = fitting(inventory, places, port, true, None);
     for state in span.first..span.end {
@@ -138,14 +137,14 @@ fn add_element(
     inventory: &Inventory,
     places: &Places,
     frames: &mut IndexSet<Frame>,
-    moves: &mut Vec<Move>,
+    moves: &mut Moves,
     number: u64,
 ) -> Result<(), NoMemory>
     requires fit { ClassesFit inventory.now }
     requires number { number < length (elements_of inventory.now) }
     requires places { HaveSpans inventory.now places.now }
     ensures on { OnOk result (GoesOn frames.old.keys frames.new.keys) }
-    ensures adds { IfOk result (λ _. Adds (λ w. IsWay inventory.now places.now.places w × (w.element ≡ number)) (IsDone inventory.now places.now.places frames.new.keys) moves.old.items moves.new.items) }
+    ensures adds { IfOk result (λ _. Adds (λ w. IsWay inventory.now places.now.places w × (w.element ≡ number)) (IsDone inventory.now places.now.places frames.new.keys) moves.old moves.new) }
 {
     inventory.is_merged();
     let ports = near_ports(inventory, number);
@@ -161,12 +160,12 @@ pub fn moves_of(
     inventory: &Inventory,
     places: &Places,
     frames: &mut IndexSet<Frame>,
-) -> Result<Vec<Move>, NoMemory>
+) -> Result<Moves, NoMemory>
     requires fit { ClassesFit inventory.now }
     requires places { HaveSpans inventory.now places.now }
-    ensures { IfOk result (λ moves. AreMoves inventory.now places.now.places frames.new.keys moves.items) }
+    ensures { IfOk result (λ moves. AreMoves inventory.now places.now.places frames.new.keys moves) }
 {
-    let mut moves = Vec::new(alloc);
+    let mut moves = Moves::new(alloc);
     for number in 0..inventory.elements() {
         add_element(inventory, places, frames, &mut moves, number)?;
     }

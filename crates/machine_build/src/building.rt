@@ -6,7 +6,7 @@ use crate::adding::moves_of;
 use crate::allowed::allowed;
 use crate::built::Built;
 use crate::frames::count_frames;
-use crate::machine::{machine_of, sites_of};
+use adapt_machine::Machine;
 use circuit_spec::Request;
 use indexmap::IndexSet;
 use kept_table::KeptTable;
@@ -30,8 +30,8 @@ pub fn build(
     let places = open_places(alloc, inventory, kept)?;
     let mut frames = IndexSet::new(alloc);
     let moves = moves_of(alloc, inventory, &places, &mut frames)?;
-    let machine = machine_of(alloc, &moves, places.len(), count_frames(&frames))?;
-    let sites = sites_of(alloc, &moves)?;
+    let (steps, sites) = moves.into_parts();
+    let machine = Machine::of_steps(places.len(), count_frames(&frames), steps);
     let starts = allowed(alloc, inventory, &places, &request.from, request.from_wish)?;
     let targets = allowed(alloc, inventory, &places, &request.to, request.to_wish)?;
     Ok(Built {

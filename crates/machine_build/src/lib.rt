@@ -6,7 +6,7 @@ mod allowed;
 mod building;
 mod built;
 mod frames;
-mod machine;
+mod moves;
 mod sides;
 mod ways;
 

@@ -5,14 +5,14 @@ use Rattle.machine_build.proofs.Growing.{adds_first}
 use Rattle.machine_build.proofs.adding.add_element.Goals as goal
 
 pub loop-place-init : goal.loop-place-init
-loop-place-init c = (goes_on_none c.args.frames.now.keys, adds_first _ _ 0 c.args.moves.now.items)
+loop-place-init c = (goes_on_none c.args.frames.now.keys, adds_first _ _ 0 c.args.moves.now)
 
 pub loop-place-preserved : goal.loop-place-preserved
 loop-place-preserved c = (
   goes_on_then c.args.frames.now.keys c.loop-place.frames.keys c.add_near_port.new.frames.keys c.loop-place.invariant.0 c.in_ok-add_near_port.ensures.on,
-  done_next c.args.inventory.now c.args.places.now.places _ 0 c.loop-place.place c.loop-place.frames.keys c.add_near_port.new.frames.keys c.args.moves.now.items c.loop-place.moves.items c.add_near_port.new.moves.items
+  done_next c.args.inventory.now c.args.places.now.places _ 0 c.loop-place.place c.loop-place.frames.keys c.add_near_port.new.frames.keys c.args.moves.now c.loop-place.moves c.add_near_port.new.moves
       (omega arith) (from_port_apart c.args.inventory.now c.args.places.now.places c.args.number c.near_ports-ports.result.now c.near_ports-ports.ensures) c.in_ok-add_near_port.ensures.on c.loop-place.invariant.1
-      (from_port c.args.inventory.now c.args.places.now.places c.args.number c.near_ports-ports.result.now c.near_ports-ports.ensures c.loop-place.place _ c.add_near_port.new.frames.keys c.loop-place.moves.items c.add_near_port.new.moves.items
+      (from_port c.args.inventory.now c.args.places.now.places c.args.number c.near_ports-ports.result.now c.near_ports-ports.ensures c.loop-place.place _ c.add_near_port.new.frames.keys c.loop-place.moves c.add_near_port.new.moves
       (slice_get-get_or c.near_ports-ports.result.now c.loop-place.place _ c.loop-place-test.true) c.in_ok-add_near_port.ensures.adds),
 )
 
@@ -20,4 +20,4 @@ pub add_near_port-requires-clause-near : goal.add_near_port-requires-clause-near
 add_near_port-requires-clause-near c = near_port c.args.inventory.now c.args.places.now.places c.args.number c.near_ports-ports.result.now c.near_ports-ports.ensures c.loop-place.place _ (slice_get-get_or c.near_ports-ports.result.now c.loop-place.place _ c.loop-place-test.true)
 
 pub returns-clause-adds : goal.returns-clause-adds
-returns-clause-adds c = element_whole c.args.inventory.now c.args.places.now.places c.args.number c.near_ports-ports.result.now c.near_ports-ports.ensures c.loop-place.place c.loop-place.frames.keys c.args.moves.now.items c.loop-place.moves.items (omega arith) c.loop-place.invariant.1
+returns-clause-adds c = element_whole c.args.inventory.now c.args.places.now.places c.args.number c.near_ports-ports.result.now c.near_ports-ports.ensures c.loop-place.place c.loop-place.frames.keys c.args.moves.now c.loop-place.moves (omega arith) c.loop-place.invariant.1

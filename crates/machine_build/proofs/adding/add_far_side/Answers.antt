@@ -10,8 +10,8 @@ add_far_port-requires-clause-port c = port_within c.args.inventory.now (is_far c
     (slice_get-get_or c.far_ports-ports.result.now c.loop-place.place _ c.loop-place-test.true)
 
 pub loop-place-preserved : goal.loop-place-preserved
-loop-place-preserved c = far_side_next c.args.inventory.now c.args.places.now.places c.args.crossing c.far_ports-ports.result.now c.far_ports-ports.ensures c.loop-place.place _ c.args.moves.now.items c.loop-place.moves.items c.add_far_port.new.moves.items
+loop-place-preserved c = far_side_next c.args.inventory.now c.args.places.now.places c.args.crossing c.far_ports-ports.result.now c.far_ports-ports.ensures c.loop-place.place _ c.args.moves.now c.loop-place.moves c.add_far_port.new.moves
     (slice_get-get_or c.far_ports-ports.result.now c.loop-place.place _ c.loop-place-test.true) c.loop-place.invariant c.in_ok-add_far_port.ensures
 
 pub returns : goal.returns
-returns c = far_side_whole c.args.inventory.now c.args.places.now.places c.args.crossing c.far_ports-ports.result.now c.far_ports-ports.ensures c.loop-place.place c.args.moves.now.items c.loop-place.moves.items (omega arith) c.loop-place.invariant
+returns c = far_side_whole c.args.inventory.now c.args.places.now.places c.args.crossing c.far_ports-ports.result.now c.far_ports-ports.ensures c.loop-place.place c.args.moves.now c.loop-place.moves (omega arith) c.loop-place.invariant

@@ -11,7 +11,7 @@ pub returns-then-not-takes-clause-adds : goal.returns-then-not-takes-clause-adds
 returns-then-not-takes-clause-adds c = takes_none c.args.inventory.now c.args.places.now.places c.args.number c.args.near c.requires.near c.in-Some.element.now c.place.result.now.label
     (element_there c.args.inventory.now c.args.places.now.places c.args.number c.args.near c.requires.near c.in-Some.element.now (sym c.in-Some.ensures))
     (label_there c.args.inventory.now c.args.places.now.places c.args.number c.args.near c.requires.near c.place.result.now c.place.ensures)
-    c.args.frames.now.keys c.args.moves.now.items (sym c.takes.ensures ∙ c.if-not-takes.true)
+    c.args.frames.now.keys c.args.moves.now (sym c.takes.ensures ∙ c.if-not-takes.true)
 
 pub effect_of-requires-clause-port : goal.effect_of-requires-clause-port
 effect_of-requires-clause-port c = slice_get_within (ports c.args.inventory.now) c.args.near.port.0 c.requires.near.port c.requires.near.is_end.port_at
@@ -23,4 +23,4 @@ pub returns-clause-adds : goal.returns-clause-adds
 returns-clause-adds c = near_end_by c.args.inventory.now c.args.places.now.places c.args.number c.args.near c.requires.near c.in-Some.element.now c.place.result.now.label
     (element_there c.args.inventory.now c.args.places.now.places c.args.number c.args.near c.requires.near c.in-Some.element.now (sym c.in-Some.ensures))
     (label_there c.args.inventory.now c.args.places.now.places c.args.number c.args.near c.requires.near c.place.result.now c.place.ensures)
-    c.in_ok-effect.effect c.effect_of.new.frames.keys (sym c.takes.ensures ∙ c.if-not-takes.false) c.in_ok-effect.ensures.effect c.changes.result c.args.moves.now.items c.add_far_side.new.moves.items c.changes.ensures c.in_ok-add_far_side.ensures
+    c.in_ok-effect.effect c.effect_of.new.frames.keys (sym c.takes.ensures ∙ c.if-not-takes.false) c.in_ok-effect.ensures.effect c.changes.result c.args.moves.now c.add_far_side.new.moves c.changes.ensures c.in_ok-add_far_side.ensures

@@ -1,12 +1,12 @@
 use Rattle.machine_build.proofs.Named.{once}
-use Rattle.machine_build.proofs.Together.{are_open, have_spans, is_built, moves_within}
+use Rattle.machine_build.proofs.Together.{are_open, have_spans, is_built, steps_within}
 use Rattle.machine_build.proofs.building.build.Goals as goal
 
 pub moves_of-requires-clause-places : goal.moves_of-requires-clause-places
 moves_of-requires-clause-places c = have_spans c.args.inventory.now c.args.kept.now c.in_ok-places.places c.in_ok-places.ensures
 
-pub machine_of-requires : goal.machine_of-requires
-machine_of-requires c = moves_within c.args.inventory.now c.in_ok-places.places.places c.moves_of.new.frames.keys c.in_ok-moves.moves.items c.deref.result.now c.len.result c.count_frames.result c.in_ok-moves.ensures c.deref.ensures.value c.len.ensures c.count_frames.ensures.counted
+pub of_steps-machine-requires : goal.of_steps-machine-requires
+of_steps-machine-requires c = steps_within c.args.inventory.now c.in_ok-places.places.places c.moves_of.new.frames.keys c.in_ok-moves.moves c.len.result c.count_frames.result c.in_ok-moves.ensures c.len.ensures c.count_frames.ensures.counted c.into_parts-steps.result.0.items c.into_parts-steps.ensures.steps
 
 pub allowed-requires-clause-places : goal.allowed-requires-clause-places
 allowed-requires-clause-places c = have_spans c.args.inventory.now c.args.kept.now c.in_ok-places.places c.in_ok-places.ensures
@@ -22,5 +22,5 @@ allowed-requires-2-clause-all_open c = are_open c.args.inventory.now c.args.kept
 
 pub returns : goal.returns
 returns c = is_built c.args.inventory.now c.args.kept.now c.args.request.now (once c.args.inventory.now c.is_merged.ensures) c.in_ok-places.places c.in_ok-places.ensures c.moves_of.new.frames.keys c.count_frames.ensures.apart
-    c.in_ok-moves.moves.items c.in_ok-moves.ensures c.len.result c.count_frames.result c.len.ensures c.count_frames.ensures.counted c.deref.result.now c.deref-2.result.now c.deref.ensures.value c.deref-2.ensures.value
-    c.in_ok-machine.machine c.in_ok-sites.sites.items c.in_ok-starts.starts.items c.in_ok-targets.targets.items c.in_ok-machine.ensures c.in_ok-sites.ensures c.in_ok-starts.ensures c.in_ok-targets.ensures
+    c.in_ok-moves.moves c.in_ok-moves.ensures c.len.result c.count_frames.result c.len.ensures c.count_frames.ensures.counted c.of_steps-machine.result c.into_parts-steps.result.0.items c.into_parts-steps.result.1.items c.in_ok-starts.starts.items c.in_ok-targets.targets.items
+    c.of_steps-machine.ensures c.into_parts-steps.ensures.steps c.into_parts-steps.ensures.sites c.in_ok-starts.ensures c.in_ok-targets.ensures
