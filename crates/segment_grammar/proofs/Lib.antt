@@ -4,3 +4,7 @@ pub mod Rising
 pub mod RowsOf
 pub mod Numbering
 pub mod Filing
+pub mod Counting
+pub mod Filling
+pub mod Grouping
+pub mod Indexing

@@ -7,7 +7,7 @@ use Rattle.ml_base.specs.declared.numbers.StepNo.{StepNo}
 use Rattle.adapt_machine.specs.Machine.{MachineValue}
 use Rattle.adapt_machine.specs.declared.MachineStep.{MachineStep}
 use Rattle.adapt_machine.specs.declared.MachineKind.TheVariants.{Flat, Push, Pop}
-use Rattle.segment_grammar.specs.Rows.{row_of, with_item}
+use Rattle.segment_grammar.specs.Rows.{row_of}
 use Rattle.segment_grammar.specs.FrameRows.{FrameRowsValue, frame_row}
 
 -- rows of step numbers: of each kind by the state that the steps leave, pushes also by the state that they enter, pops also by their frame
@@ -20,12 +20,6 @@ pub record IndexValue : Type 0 where
 
 abbrev pub step_no : ℕ → StepNo
 step_no k = record { 0 = k }
-
-abbrev pub with_flat : IndexValue → MachineStep → ℕ → IndexValue
-with_flat i t n = record i { flats = with_item i.flats t.from.0 (step_no n) }
-
-abbrev pub with_push : IndexValue → MachineStep → ℕ → IndexValue
-with_push i t n = record i { pushes = with_item i.pushes t.from.0 (step_no n); pushes_into = with_item i.pushes_into t.to.0 (step_no n) }
 
 -- each state has its rows
 pub record HasRooms (i : IndexValue) : Type 0 where
@@ -56,10 +50,14 @@ pub record ListsSteps (steps : List MachineStep) (n : ℕ) (test : MachineStep �
 abbrev pub AreSteps : MachineValue → (MachineStep → Type 0) → List StepNo → Type 0
 AreSteps m test list = ListsSteps m.steps (length m.steps) test list
 
+-- the first `n` steps begin and end at states of the machine
+abbrev pub AreWithin : List MachineStep → ℕ → ℕ → Type 0
+AreWithin steps n states = (k : ℕ) (t : MachineStep) → k < n → slice_get steps k ≡ Some t → (t.from.0 < states) × (t.to.0 < states)
+
 -- the first `n` steps are filed
 pub record IsFiledBelow (steps : List MachineStep) (n states : ℕ) (i : IndexValue) : Type 0 where
   pub states_same : i.states ≡ states
-  pub within : (k : ℕ) (t : MachineStep) → k < n → slice_get steps k ≡ Some t → (t.from.0 < states) × (t.to.0 < states)
+  pub within : AreWithin steps n states
   pub flats : (s : StateNo) → s.0 < states → ListsSteps steps n (IsFlatFrom s) (row_of i.flats s.0)
   pub pushes : (s : StateNo) → s.0 < states → ListsSteps steps n (IsPushFrom s) (row_of i.pushes s.0)
   pub pushes_into : (s : StateNo) → s.0 < states → ListsSteps steps n (IsPushInto s) (row_of i.pushes_into s.0)

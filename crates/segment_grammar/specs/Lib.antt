@@ -4,3 +4,4 @@ pub mod Pots
 pub mod Rows
 pub mod FrameRows
 pub mod Index
+pub mod Grouped

@@ -1,18 +1,22 @@
-ghost use Rattle.std.specs.Prelude.{◌≡◌, ◌<◌, ◌∷◌, ◌++◌, [], ℕ, List, length, IfOk, OnErr, Some, None};
-ghost use Rattle.ml_base.specs.declared.numbers.StepNo.{StepNo};
-ghost use Rattle.segment_grammar.specs.FrameRows.{numbered, row_found, frame_row, IsNumbering};
+ghost use Rattle.std.specs.Prelude.{◌≡◌, ◌+◌, ◌<◌, ℕ, length, IfOk, Some};
+ghost use Rattle.std.specs.HashMap.{hash_map_len};
+ghost use Rattle.ml_base.specs.declared.numbers.StateNo.{StateNo};
+ghost use Rattle.ml_base.specs.declared.numbers.FrameNo.{FrameNo};
+ghost use Rattle.segment_grammar.specs.Index.{AreSteps, IsPopAt, AreWithin};
+ghost use Rattle.segment_grammar.specs.FrameRows.{numbered, frame_row, IsNumbering, ArePopsNumbered};
 
-use crate::rows::Rows;
+use crate::grouped::{Grouped, Key, is_flat};
+use adapt_machine::{Machine, MachineKind};
 use ml_base::{FrameNo, NoMemory, StateNo, StepNo};
 use std::alloc::Global;
-use std::collections::BTreeMap;
+use std::collections::HashMap;
 use std::marker::Model;
 
-/// Rows of step numbers by state and frame. Contracts see the row of each pair, empty at first.
+/// The pops of a machine by state and frame. Contracts see the row of each pair, empty where no pop has it.
 #[derive(Drop)]
 pub struct FrameRows {
-    numbers: BTreeMap<(u64, u64), u64>,
-    rows: Rows<StepNo>,
+    numbers: HashMap<(u64, u64), u64>,
+    rows: Grouped,
 }
 
 impl Model for FrameRows {
@@ -26,56 +30,67 @@ impl Model for FrameRows {
     ghost invariant = { λ r. IsNumbering r.numbers.entries (length r.rows) };
 }
 
-/// Gives the pair the number of a new row, which is empty.
-fn number_anew(
-    numbers: &mut BTreeMap<(u64, u64), u64>,
-    rows: &mut Rows<StepNo>,
-    state: u64,
-    frame: u64,
-) -> Result<u64, NoMemory>
-    requires numbering { IsNumbering numbers.old.entries (length rows.old) }
-    requires none { numbered numbers.old.entries state frame ≡ None }
-    ensures numbering { IsNumbering numbers.new.entries (length rows.new) }
-    ensures kept { (a b : ℕ) → row_found rows.new (numbered numbers.new.entries a b) ≡ row_found rows.old (numbered numbers.old.entries a b) }
-    ensures found { IfOk result (λ i. numbered numbers.new.entries state frame ≡ Some i) }
+/// Gives the pair the next number, where it has none.
+fn number(numbers: &mut HashMap<(u64, u64), u64>, state: u64, frame: u64) -> Result<(), NoMemory>
+    requires numbering { IsNumbering numbers.old.entries (hash_map_len numbers.old) }
+    ensures numbering { IfOk result (λ _. IsNumbering numbers.new.entries (hash_map_len numbers.new)) }
+    ensures kept { IfOk result (λ _. (a b i : ℕ) → numbered numbers.old.entries a b ≡ Some i → numbered numbers.new.entries a b ≡ Some i) }
+    ensures found { IfOk result (λ _. (i : ℕ) × (numbered numbers.new.entries state frame ≡ Some i)) }
 {
-    let number = rows.count();
-    rows.open()?;
+    if numbers.contains_key(&(state, frame)) {
+        return Ok(());
+    }
+    let number = numbers.len() as u64;
     match numbers.insert((state, frame), number) {
-        Ok(_) => Ok(number),
+        Ok(_) => Ok(()),
         Err(_) => Err(NoMemory),
     }
 }
 
-/// The number of the pair's row, a new one where it has none.
-fn number(
-    numbers: &mut BTreeMap<(u64, u64), u64>,
-    rows: &mut Rows<StepNo>,
-    state: u64,
-    frame: u64,
-) -> Result<u64, NoMemory>
-    requires numbering { IsNumbering numbers.old.entries (length rows.old) }
-    ensures numbering { IsNumbering numbers.new.entries (length rows.new) }
-    ensures kept { (a b : ℕ) → row_found rows.new (numbered numbers.new.entries a b) ≡ row_found rows.old (numbered numbers.old.entries a b) }
-    ensures found { IfOk result (λ i. numbered numbers.new.entries state frame ≡ Some i) }
+/// Numbers the pair of the step, if it is a pop.
+fn number_step(
+    numbers: &mut HashMap<(u64, u64), u64>,
+    machine: &Machine,
+    step: u64,
+) -> Result<(), NoMemory>
+    requires below { step < length machine.now.steps }
+    requires numbered { ArePopsNumbered machine.now.steps step numbers.old.entries (hash_map_len numbers.old) }
+    ensures numbered { IfOk result (λ _. ArePopsNumbered machine.now.steps (step + 1) numbers.new.entries (hash_map_len numbers.new)) }
 {
-    if let Some(number) = numbers.get(&(state, frame)) {
-        return Ok(*number);
+    let step = machine.step(StepNo(step));
+    if step.kind != MachineKind::Pop {
+        return Ok(());
     }
-    let number = number_anew(numbers, rows, state, frame)?;
-    Ok(number)
+    number(numbers, step.from.0, step.frame.0)?;
+    Ok(())
+}
+
+/// The numbers of the pairs of the machine's pops.
+fn numbers_of(alloc: Global, machine: &Machine) -> Result<HashMap<(u64, u64), u64>, NoMemory>
+    ensures numbered { IfOk result (λ m. ArePopsNumbered machine.now.steps (length machine.now.steps) m.entries (hash_map_len m)) }
+    ensures within { IfOk result (λ _. AreWithin machine.now.steps (length machine.now.steps) machine.now.states) }
+{
+    let mut numbers = HashMap::new(alloc);
+    let steps = machine.steps();
+    if is_flat(machine) {
+        return Ok(numbers);
+    }
+    for step in 0..steps {
+        number_step(&mut numbers, machine, step)?;
+    }
+    Ok(numbers)
 }
 
 impl FrameRows {
-    /// Rows without numbers.
-    pub fn new(alloc: Global) -> Result<FrameRows, NoMemory>
-        ensures { IfOk result (λ r. (a b : ℕ) → frame_row r a b ≡ []) }
+    /// The pops of the machine.
+    pub fn new(alloc: Global, machine: &Machine) -> Result<FrameRows, NoMemory>
+        ensures pops { IfOk result (λ r. (s : StateNo) (f : FrameNo) → AreSteps machine.now (IsPopAt s f) (frame_row r s.0 f.0)) }
+        ensures within { IfOk result (λ _. AreWithin machine.now.steps (length machine.now.steps) machine.now.states) }
     {
-        let rows = Rows::new(alloc, 0)?;
-        Ok(FrameRows {
-            numbers: BTreeMap::new(alloc),
-            rows,
-        })
+        let numbers = numbers_of(alloc, machine)?;
+        let count = numbers.len() as u64;
+        let rows = Grouped::new(alloc, machine, &Key::PopAt(&numbers), count)?;
+        Ok(FrameRows { numbers, rows })
     }
 
     /// The row of the state and the frame.
@@ -86,15 +101,5 @@ impl FrameRows {
             return &[];
         };
         self.rows.row(*number)
-    }
-
-    /// Puts a number at the end of the row of the state and the frame.
-    pub fn add(&mut self, state: StateNo, frame: FrameNo, step: StepNo) -> Result<(), NoMemory>
-        ensures here { IfOk result (λ _. frame_row self.new state.0 frame.0 ≡ frame_row self.old state.0 frame.0 ++ step ∷ []) }
-        ensures apart { IfOk result (λ _. (a b : ℕ) → ((a ≡ state.0) × (b ≡ frame.0) → ⊥) → frame_row self.new a b ≡ frame_row self.old a b) }
-    {
-        let number = number(&mut self.numbers, &mut self.rows, state.0, frame.0)?;
-        self.rows.add(number, step)?;
-        Ok(())
     }
 }

@@ -2,6 +2,7 @@
 #![tactic(auto)]
 
 mod frame_rows;
+mod grouped;
 mod index;
 mod laws;
 mod potentials;
