@@ -1,88 +1,110 @@
 -- The rows of a table when a pair is added.
-use Rattle.std.proofs.Common.{◌≡◌, ◌≢◌, ℕ, ◌<◌, ◌⊎◌, List, [], ◌∷◌, ◌++◌, length, map, refl, sym, ◌∙◌, ap, subst, inl, inr, Contains, Some, slice_get}
+use Rattle.std.proofs.Common.{◌≡◌, ◌≢◌, ℕ, ◌<◌, ◌⊎◌, List, [], ◌∷◌, ◌++◌, length, map, refl, sym, ◌∙◌, subst, inl, inr, Contains, Some, slice_get}
 use Rattle.std.specs.Prelude.{Bool, true, false, IsTrue, ◌↔◌}
 use Rattle.std.proofs.Math.ListN.{length-set}
 use Rattle.std.proofs.lemmas.Bool.{cases_eq}
-use Rattle.std.proofs.lemmas.List.{get_or-set_same, get_or-set_other, map-append, length-map}
-use Rattle.std.proofs.lemmas.List.Elements.{Contains-push, Contains-append_left, All-append, All-cons, All-nil}
+use Rattle.std.proofs.lemmas.List.{get_or-set_same, get_or-set_other, map-append}
+use Rattle.std.proofs.lemmas.List.Elements.{Contains-push_cases, Contains-push, Contains-append_left, All-append, All-cons, All-nil}
 use Rattle.ml_base.specs.declared.numbers.StateNo.{StateNo}
-use Rattle.ml_base.specs.declared.numbers.Root.TheVariants.{Entry}
 use Rattle.ml_base.specs.declared.weight.Weight.{Weight}
 use Rattle.ml_base.specs.Weight.{IsCappedAtMost}
 use Rattle.ml_base.proofs.Laws.{at_most-same, at_most-either}
-use Rattle.adapt_machine.specs.Machine.{MachineValue}
+use Rattle.adapt_machine.specs.declared.MachineKind.{MachineKind}
 use Rattle.adapt_machine.specs.declared.MachineKind.TheVariants.{Push, Pop}
 use Rattle.segment_grammar.specs.declared.potentials.Pot.{Pot}
+use Rattle.segment_grammar.specs.Index.{IndexValue}
 use Rattle.segment_grammar.specs.Rows.{row_of, with_item}
 use Rattle.segment_grammar.proofs.Rising.{refuted}
-use Rattle.segment_grammar.proofs.Places.{pushed_at}
 use Rattle.knuth_search.specs.declared.derived.Derived.{Derived}
 use Rattle.knuth_search.specs.Derived.{Task}
 use Rattle.knuth_search.specs.Following.{IsCovered}
-use Rattle.knuth_search.specs.Tables.{IsLeftBy, IsFiled, KeepsRows, AreStored, IsKept, pot_of}
+use Rattle.knuth_search.specs.Tables.{IsLeftBy, HasPot, IsUnder, IsAt, AreFiled, AreStored, Files, IsKept, pot_of}
 
-pub keeps_same : (old new : List (List ℕ)) → new ≡ old → KeepsRows old new
-keeps_same old new e = subst (λ v. KeepsRows old v) (sym e) (record { rooms = refl; kept = λ s i c. c })
+-- a row after an item was put into it
+pub row_here : (rows : List (List Derived)) (y x : ℕ) (d : Derived) → y < length rows → x ≡ y → row_of (with_item rows y d) x ≡ row_of rows x ++ d ∷ []
+row_here rows y x d l e = subst (λ v. row_of (with_item rows y d) v ≡ row_of rows v ++ d ∷ []) (sym e) (get_or-set_same rows y (row_of rows y ++ d ∷ []) [] l)
 
-row_here : (rows : List (List ℕ)) (r x : ℕ) → r < length rows → row_of (with_item rows r x) r ≡ row_of rows r ++ x ∷ []
-row_here rows r x l = get_or-set_same rows r (row_of rows r ++ x ∷ []) [] l
+pub added_here : (rows : List (List Derived)) (y : ℕ) (d : Derived) → y < length rows → Contains (row_of (with_item rows y d) y) d
+added_here rows y d l = subst (λ v. Contains v d) (sym (row_here rows y y d l refl)) (Contains-push (row_of rows y) d)
 
-pub keeps_added : (rows : List (List ℕ)) (r x : ℕ) → r < length rows → KeepsRows rows (with_item rows r x)
-keeps_added rows r x l = record { rooms = length-set rows r (row_of rows r ++ x ∷ []); kept = λ s i c. go s i c (cases_eq s r) }
-  where
-    go : (s i : ℕ) → Contains (row_of rows s) i → (s ≡ r) ⊎ (s ≢ r) → Contains (row_of (with_item rows r x) s) i
-    go s i c (inl e) = subst (λ v. Contains (row_of (with_item rows r x) v) i) (sym e)
-        (subst (λ v. Contains v i) (sym (row_here rows r x l)) (Contains-append_left (row_of rows r) (x ∷ []) i (subst (λ v. Contains (row_of rows v) i) e c)))
-    go s i c (inr apart) = subst (λ v. Contains v i) (sym (get_or-set_other rows r s (row_of rows r ++ x ∷ []) [] apart)) c
+-- no row changes, or one has the item more
+module _ (belongs : StateNo → Pot → Type 0) (item : Derived) where
+  pub files_same : (old new : List (List Derived)) → new ≡ old → Files belongs item old new
+  files_same old new e = subst (λ v. Files belongs item old v) (sym e) (record { rooms = refl; kept = λ x d c. c; only = λ x d c. inl c })
 
-pub added_here : (rows : List (List ℕ)) (r x : ℕ) → r < length rows → Contains (row_of (with_item rows r x) r) x
-added_here rows r x l = subst (λ v. Contains v x) (sym (row_here rows r x l)) (Contains-push (row_of rows r) x)
+  module _ (rows : List (List Derived)) (y : StateNo) (l : y.0 < length rows) (b : belongs y (pot_of item)) where
+    apart : (x : StateNo) → x.0 ≢ y.0 → row_of (with_item rows y.0 item) x.0 ≡ row_of rows x.0
+    apart x n = get_or-set_other rows y.0 x.0 (row_of rows y.0 ++ item ∷ []) [] n
 
--- the rows have more
-pub filed_kept : (m : MachineValue) (pots : List Pot) (r s r' s' : List (List ℕ)) → IsFiled m pots r s → KeepsRows r r' → KeepsRows s s' → IsFiled m pots r' s'
-filed_kept m pots r s r' s' is k l = record {
-  root_rooms = k.rooms ∙ is.root_rooms;
-  state_rooms = l.rooms ∙ is.state_rooms;
-  under = λ x b i p f e. k.kept x.0 i (is.under x b i p f e);
-  at = λ x b i p f e. l.kept x.0 i (is.at x b i p f e);
-}
+    kept_more : (x : StateNo) (d : Derived) → Contains (row_of rows x.0) d → (x.0 ≡ y.0) ⊎ (x.0 ≢ y.0) → Contains (row_of (with_item rows y.0 item) x.0) d
+    kept_more x d c (inl e) = subst (λ v. Contains v d) (sym (row_here rows y.0 x.0 item l e)) (Contains-append_left (row_of rows x.0) (item ∷ []) d c)
+    kept_more x d c (inr n) = subst (λ v. Contains v d) (sym (apart x n)) c
 
-module _ (m : MachineValue) (pots : List Pot) (r s : List (List ℕ)) (next : Pot) (place : ℕ) (whole : place ≡ length pots) (is : IsFiled m pots r s) where
-  pub filed_pushed : (IsLeftBy m.steps Pop next.state → (x : StateNo) → next.root ≡ Entry x → Contains (row_of r x.0) place) → (IsLeftBy m.steps Push next.state → Contains (row_of s next.state.0) place)
-      → IsFiled m (pots ++ next ∷ []) r s
-  filed_pushed root at = record {
-    root_rooms = is.root_rooms;
-    state_rooms = is.state_rooms;
-    under = λ x b i p f e. elim (pushed_at pots next i p f) as (λ v. Contains (row_of r x.0) i) [
-      | inl a ↦ is.under x b i p a e
-      | inr c ↦ subst (λ v. Contains (row_of r x.0) v) (whole ∙ sym c.0) (root (subst (λ v. IsLeftBy m.steps Pop v.state) c.1 e.1) x (sym (ap (λ v. v.root) c.1) ∙ e.0))
-    ];
-    at = λ x b i p f e. elim (pushed_at pots next i p f) as (λ v. Contains (row_of s x.0) i) [
-      | inl a ↦ is.at x b i p a e
-      | inr c ↦ subst (λ v. Contains (row_of s x.0) v) (whole ∙ sym c.0) (subst (λ v. Contains (row_of s v.0) place) (sym (ap (λ v. v.state) c.1) ∙ e.0) (at (subst (λ v. IsLeftBy m.steps Push v.state) c.1 e.1)))
-    ];
+    at_most_one : (x : StateNo) (d : Derived) → Contains (row_of (with_item rows y.0 item) x.0) d → (x.0 ≡ y.0) ⊎ (x.0 ≢ y.0) → Contains (row_of rows x.0) d ⊎ ((item ≡ d) × belongs x (pot_of d))
+    at_most_one x d c (inl e) = elim (Contains-push_cases (row_of rows x.0) item d (subst (λ v. Contains v d) (row_here rows y.0 x.0 item l e) c)) as (λ v. Contains (row_of rows x.0) d ⊎ ((item ≡ d) × belongs x (pot_of d))) [
+      | inl o ↦ inl o
+      | inr s ↦ inr (s, subst (λ v. belongs x (pot_of v)) s (subst (λ n. belongs (record { 0 = n }) (pot_of item)) (sym e) b))
+    ]
+    at_most_one x d c (inr n) = inl (subst (λ v. Contains v d) (apart x n) c)
+
+    pub files_added : Files belongs item rows (with_item rows y.0 item)
+    files_added = record { rooms = length-set rows y.0 (row_of rows y.0 ++ item ∷ []); kept = λ x d c. kept_more x d c (cases_eq x.0 y.0); only = λ x d c. at_most_one x d c (cases_eq x.0 y.0) }
+
+-- rows of a table whose pair is filed before it is added
+module _ (task : Task) (pots : List Pot) (kind : MachineKind) (belongs : StateNo → Pot → Type 0) (next : Derived) where
+  pub filed_kept : (old new : List (List Derived)) → AreFiled task pots kind belongs old → IsKept task next → Files belongs next old new → AreFiled task pots kind belongs new
+  filed_kept old new is kept files = record {
+    rooms = files.rooms ∙ is.rooms;
+    lists = λ x b. record {
+      all = λ p c t e. there x p ((is.lists x b).all p c t e);
+      kept = λ d c. elim (files.only x d c) as (λ v. IsKept task d) [ inl o ↦ (is.lists x b).kept d o | inr n ↦ subst (λ v. IsKept task v) n.0 kept ];
+      pass = λ d c. elim (files.only x d c) as (λ v. belongs x (pot_of d)) [ inl o ↦ (is.lists x b).pass d o | inr n ↦ n.1 ];
+    };
+  }
+    where
+      there : (x : StateNo) (p : Pot) → HasPot (row_of old x.0) p → HasPot (row_of new x.0) p
+      there x p h = record { item = h.item; listed = files.kept x h.item h.listed; is = h.is }
+
+  pub filed_pushed : (rows : List (List Derived)) → AreFiled task pots kind belongs rows
+      → (IsLeftBy task.machine.steps kind next.state → (x : StateNo) → belongs x (pot_of next) → Contains (row_of rows x.0) next) → AreFiled task (pots ++ pot_of next ∷ []) kind belongs rows
+  filed_pushed rows is here = record {
+    rooms = is.rooms;
+    lists = λ x b. record {
+      all = λ p c t e. elim (Contains-push_cases pots (pot_of next) p c) as (λ v. HasPot (row_of rows x.0) p) [
+        | inl o ↦ (is.lists x b).all p o t e
+        | inr s ↦ record { item = next; listed = here (subst (λ v. IsLeftBy task.machine.steps kind v.state) (sym s) e) x (subst (λ v. belongs x v) (sym s) t); is = s }
+      ];
+      kept = (is.lists x b).kept;
+      pass = (is.lists x b).pass;
+    };
   }
 
 -- what is listed is covered
 pub covered_itself : (list : List Pot) (p : Pot) → Contains list p → IsCovered list p
 covered_itself list p c = record { weight = p.weight; listed = c; at_most = at_most-same p.weight }
 
--- what is stored when a pair is added
-module _ (task : Task) (items : List Derived) (r s : List (List ℕ)) (pops pushes : List Bool) (is : AreStored task items r s pops pushes) where
-  pub stored_kept : (r' s' : List (List ℕ)) → KeepsRows r r' → KeepsRows s s' → AreStored task items r' s' pops pushes
-  stored_kept r' s' k l = record { filed = filed_kept task.machine (map pot_of items) r s r' s' is.filed k l; kept = is.kept; popping = is.popping; pushing = is.pushing }
+-- what is stored when a pair is filed, and when it is added
+module _ (task : Task) (index : IndexValue) (items : List Derived) (r s : List (List Derived)) (pops : List Bool) (is : AreStored task index items r s pops) (next : Derived) (kept : IsKept task next) where
+  pub stored_kept : (r' s' : List (List Derived)) → Files IsUnder next r r' → Files IsAt next s s' → AreStored task index items r' s' pops
+  stored_kept r' s' k l = record {
+    under = filed_kept task (map pot_of items) Pop IsUnder next r r' is.under kept k;
+    at = filed_kept task (map pot_of items) Push IsAt next s s' is.at kept l;
+    kept = is.kept;
+    popping = is.popping;
+    indexed = is.indexed;
+  }
 
-  pub stored_pushed : (next : Derived) (place : ℕ) → place ≡ length items → IsKept task next
-      → (slice_get pops next.state.0 ≡ Some true → (x : StateNo) → next.root ≡ Entry x → Contains (row_of r x.0) place) → (slice_get pushes next.state.0 ≡ Some true → Contains (row_of s next.state.0) place)
-      → (items' : List Derived) → items' ≡ items ++ next ∷ [] → AreStored task items' r s pops pushes
-  stored_pushed next place whole kept under at items' pushed =
-      subst (λ v. AreStored task v r s pops pushes) (sym pushed) (record {
-        filed = subst (λ v. IsFiled task.machine v r s) (sym (map-append pot_of items (next ∷ [])))
-            (filed_pushed task.machine (map pot_of items) r s (pot_of next) place (whole ∙ sym (length-map items pot_of)) is.filed
-            (λ e. under (is.popping.all next.state e)) (λ e. at (is.pushing.all next.state e)));
+  pub stored_pushed : (slice_get pops next.state.0 ≡ Some true → (x : StateNo) → IsUnder x (pot_of next) → Contains (row_of r x.0) next)
+      → (IsLeftBy task.machine.steps Push next.state → Contains (row_of s next.state.0) next) → (items' : List Derived) → items' ≡ items ++ next ∷ [] → AreStored task index items' r s pops
+  stored_pushed under at items' pushed =
+      subst (λ v. AreStored task index v r s pops) (sym pushed) (record {
+        under = subst (λ v. AreFiled task v Pop IsUnder r) (sym (map-append pot_of items (next ∷ [])))
+            (filed_pushed task (map pot_of items) Pop IsUnder next r is.under (λ e. under (is.popping.all next.state e)));
+        at = subst (λ v. AreFiled task v Push IsAt s) (sym (map-append pot_of items (next ∷ [])))
+            (filed_pushed task (map pot_of items) Push IsAt next s is.at (λ e x here. subst (λ y. Contains (row_of s y.0) next) here (at e)));
         kept = All-append (IsKept task) items (next ∷ []) is.kept (All-cons (IsKept task) next [] kept (All-nil (IsKept task)));
         popping = is.popping;
-        pushing = is.pushing;
+        indexed = is.indexed;
       })
 
 pub heavier : (b : Bool) (u v : Weight) → IsTrue b ↔ IsCappedAtMost u v → b ≡ false → IsCappedAtMost v u

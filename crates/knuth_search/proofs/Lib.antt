@@ -1,4 +1,5 @@
 pub mod Heaps
+pub mod Lanes
 pub mod Keys
 pub mod Filed
 pub mod Deriving

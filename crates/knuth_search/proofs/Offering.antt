@@ -1,13 +1,14 @@
 -- Candidates that are offered.
-use Rattle.std.proofs.Common.{◌≡◌, ℕ, ◌+◌, ◌<◌, ◌⊎◌, List, ◌∷◌, length, sym, ◌∙◌, ap, subst, inl, inr, arith, Contains, Some, None, slice_get, zero as nought, suc, slice_index_or}
+use Rattle.std.proofs.Common.{◌≡◌, ℕ, ◌+◌, ◌<◌, ◌⊎◌, List, ◌∷◌, length, refl, sym, ◌∙◌, ap, subst, inl, inr, arith, Contains, Some, slice_get, zero as nought, suc, slice_index_or}
 use Rattle.std.proofs.lemmas.Bool.{cases_lt}
 use Rattle.std.proofs.Math.ListN.{get_or}
+use Rattle.std.proofs.lemmas.List.Elements.{Contains-get_or}
 use Rattle.ml_base.specs.declared.numbers.StepNo.{StepNo}
 use Rattle.ml_base.specs.declared.numbers.StateNo.{StateNo}
 use Rattle.ml_base.specs.declared.numbers.Root.{Root}
 use Rattle.adapt_machine.specs.Machine.{MachineValue}
 use Rattle.adapt_machine.specs.declared.MachineKind.{MachineKind}
-use Rattle.adapt_machine.specs.declared.MachineKind.TheVariants.{Push}
+use Rattle.adapt_machine.specs.declared.MachineKind.TheVariants.{Push, Pop}
 use Rattle.knuth_search.specs.Derived.{Task}
 use Rattle.ml_base.specs.declared.numbers.Root.TheVariants.{Entry}
 use Rattle.ml_base.specs.declared.weight.Weight.{Weight}
@@ -17,8 +18,9 @@ use Rattle.segment_grammar.specs.declared.potentials.Pot.{Pot}
 use Rattle.segment_grammar.specs.Pots.{pot}
 use Rattle.segment_grammar.specs.Index.{ListsSteps, IsPushFrom, IsPushInto, IsPopAt}
 use Rattle.segment_grammar.proofs.Places.{contains_at, at_contains, same_at, slice_get-below}
-use Rattle.knuth_search.specs.Following.{zero, stepped, IsCovered, IsStepOf, FlatBy, OpenedBy, NestedBy, Enters, Meets, Closes, PushedBy, Fills, SomePot, AtPlace, Among, IsOffered, Offers}
-use Rattle.knuth_search.specs.Tables.{Queued, IsLeftBy}
+use Rattle.knuth_search.specs.Following.{zero, stepped, IsCovered, IsStepOf, FlatBy, OpenedBy, NestedBy, Enters, Meets, Closes, PushedBy, Fills, SomePot, Among, IsOffered, Offers}
+use Rattle.knuth_search.specs.declared.derived.Derived.{Derived}
+use Rattle.knuth_search.specs.Tables.{Queued, IsLeftBy, IsKept, IsUnder, IsAt, HasPot, ListsPairs, pot_of}
 
 pub contains_cases : {X : Type 0} (x y : X) (xs : List X) → Contains (x ∷ xs) y → Contains xs y ⊎ (y ≡ x)
 contains_cases x y xs p = go p.0 p.1 p.2
@@ -81,21 +83,6 @@ module _ {X : Type 0} (R : X → Pot → Type 0) (xs : List X) where
           let at : (i : ℕ) × (i < length xs) × (slice_get xs i ≡ Some b.0) = at_contains xs b.0 b.1 in
           record { number = at.0; early = subst (λ m. at.0 < m) (sym whole) at.1; item = b.0; found = at.2; gives = b.2 }
 
-module _ (table : List Pot) where
-  -- what stands at a place
-  pub offers_at : (R : Pot → Pot → Type 0) (place : ℕ) (x : Pot) → slice_get table place ≡ Some x → (old new : Queued) → Offers (λ p. R x p) old new → Offers (AtPlace table R place) old new
-  offers_at R place x found old new offers = offers_same (λ p. R x p) (AtPlace table R place) old new offers
-      (λ p a. subst (λ v. R v p) (same_at table place a.item x a.found found) a.gives)
-
-  no_item : (i : ℕ) (x : Pot) → slice_get table i ≡ None → slice_get table i ≡ Some x → ⊥
-  no_item i x p q = cc
-
-  pub offers_nowhere : (R : Pot → Pot → Type 0) (place : ℕ) → slice_get table place ≡ None → (old : Queued) → Offers (AtPlace table R place) old old
-  offers_nowhere R place gone old = offers_none (AtPlace table R place) old (λ p a. no_item place a.item gone a.found)
-
-  pub offers_not_at : (R : Pot → Pot → Type 0) (place : ℕ) (x : Pot) → slice_get table place ≡ Some x → ((p : Pot) → R x p → ⊥) → (old : Queued) → Offers (AtPlace table R place) old old
-  offers_not_at R place x found none old = offers_none (AtPlace table R place) old (λ p a. none p (subst (λ v. R v p) (same_at table place a.item x a.found found) a.gives))
-
 -- what one step gives is one pot
 module _ (steps : List MachineStep) (prev : Pot) (k : StepNo) (t : MachineStep) (found : slice_get steps k.0 ≡ Some t) where
   pub flat_is : (w : Weight) → w ≡ stepped prev.weight t → (p : Pot) → FlatBy steps prev k p → p ≡ pot prev.root t.to w
@@ -153,14 +140,6 @@ module _ (steps : List MachineStep) (prev : Pot) (k : StepNo) (inner : Pot) (pus
       s.gives,
     )
 
--- the places of the pairs
-module _ (table : List Pot) (R : Pot → Pot → Type 0) (test : Pot → Type 0) (list : List ℕ) (lists : (i : ℕ) (p : Pot) → slice_get table i ≡ Some p → test p → Contains list i)
-    (tests : (item p : Pot) → R item p → test item) where
-  pub places_listed : (p : Pot) → SomePot table R p → (i : ℕ) × Contains list i × AtPlace table R i p
-  places_listed p s =
-      let at : (i : ℕ) × (i < length table) × (slice_get table i ≡ Some s.item) = at_contains table s.item s.listed in
-      (at.0, lists at.0 s.item at.2 (tests s.item p s.gives), record { item = s.item; found = at.2; gives = s.gives })
-
 pub pushed_step : (steps : List MachineStep) (table : List Pot) (prev : Pot) (k : StepNo) (p : Pot) → PushedBy steps table prev k p → IsStepOf steps (IsPushFrom prev.state) k
 pushed_step steps table prev k p (inl o) = o.push
 pushed_step steps table prev k p (inr s) = s.gives.gives.meets.enters.push
@@ -186,3 +165,32 @@ pub left_by : (task : Task) (steps : List MachineStep) (m : MachineValue) → ta
     → IsLeftBy task.machine.steps kind x
 left_by task steps m same are kind x number t found is_kind leaves =
     record { number = number; step = t; found = subst (λ l. slice_get l number ≡ Some t) (sym (ap (λ v. v.steps) same ∙ are)) found; is_kind = is_kind; leaves = leaves }
+
+-- the pairs of a row
+module _ (task : Task) (table : List Pot) (kind : MachineKind) (test : Pot → Type 0) (row : List Derived) (lists : ListsPairs task table kind test row) where
+  pub kept_at : (i : ℕ) (d : Derived) → i < length row → (task' : Task) → task' ≡ task → IsKept task' (get_or row i d)
+  kept_at i d l task' e = subst (λ t. IsKept t (get_or row i d)) (sym e) (lists.kept (get_or row i d) (Contains-get_or row i d l))
+
+  pub passes_at : (i : ℕ) (d : Derived) → i < length row → test (pot_of (get_or row i d))
+  passes_at i d l = lists.pass (get_or row i d) (Contains-get_or row i d l)
+
+  pair_listed : (R : Pot → Pot → Type 0) (p : Pot) (s : SomePot table R p) → test s.item → IsLeftBy task.machine.steps kind s.item.state → (d : Derived) × Contains row d × R (pot_of d) p
+  pair_listed R p s passes left =
+      let has : HasPot row s.item = lists.all s.item s.listed passes left in
+      (has.item, has.listed, subst (λ v. R v p) (sym has.is) s.gives)
+
+-- the rows that a push asks for have what it gives something with
+module _ (task : Task) (table : List Pot) (row : List Derived) (steps : List MachineStep) (same : task.machine.steps ≡ steps) (k : StepNo) (pushed : MachineStep) (found : slice_get steps k.0 ≡ Some pushed) where
+  pub inners_listed : ListsPairs task table Pop (IsUnder pushed.to) row → (prev p : Pot) → SomePot table (λ inner p. Closes steps prev k inner p) p
+      → (d : Derived) × Contains row d × Closes steps prev k (pot_of d) p
+  inners_listed lists prev p s =
+      let meets : Meets steps prev k s.item s.gives.number = s.gives.gives.meets in
+      pair_listed task table Pop (IsUnder pushed.to) row lists (λ inner p. Closes steps prev k inner p) p s (under_here steps prev k s.item pushed found meets.enters)
+      (left_by task steps task.machine refl same Pop s.item.state s.gives.number.0 meets.pop.step meets.pop.found meets.pop.passes.0 meets.pop.passes.1)
+
+  pub waiting_listed : ListsPairs task table Push (IsAt pushed.from) row → (inner p : Pot) → SomePot table (λ prev p. Closes steps prev k inner p) p
+      → (d : Derived) × Contains row d × Closes steps (pot_of d) k inner p
+  waiting_listed lists inner p s =
+      let push : IsStepOf steps (IsPushFrom s.item.state) k = s.gives.gives.meets.enters.push in
+      pair_listed task table Push (IsAt pushed.from) row lists (λ prev p. Closes steps prev k inner p) p s (from_here steps s.item k inner pushed found s.gives.gives.meets.enters)
+      (left_by task steps task.machine refl same Push s.item.state k.0 push.step push.found push.passes.0 push.passes.1)

@@ -1,7 +1,5 @@
 -- What the search keeps from turn to turn, and what it has found at the end.
-use Rattle.std.proofs.Common.{◌≡◌, ℕ, ◌+◌, ◌⊎◌, List, [], ◌∷◌, ◌++◌, refl, sym, ◌∙◌, ap, subst, inl, inr, arith, Contains, Some, slice_get}
-use Rattle.std.specs.List.Sorted.{IsPermutation}
-use Rattle.std.proofs.lemmas.List.Sorted.{Contains-permutation}
+use Rattle.std.proofs.Common.{◌≡◌, ℕ, ◌+◌, ◌⊎◌, List, [], ◌∷◌, ◌++◌, refl, sym, ◌∙◌, ap, subst, inl, inr, arith, Contains, Some, None, Option, slice_get}
 use Rattle.std.proofs.lemmas.List.Elements.{Contains-push, Contains-push_cases, Contains-append_left}
 use Rattle.ml_base.specs.declared.numbers.StateNo.{StateNo}
 use Rattle.ml_base.specs.declared.numbers.FrameNo.{FrameNo}
@@ -23,7 +21,8 @@ use Rattle.deriv_arena.specs.Derivation.{unfolding_of}
 use Rattle.knuth_search.specs.Derived.{Task, IsDerived}
 use Rattle.knuth_search.proofs.Deriving.{derived_segment, derived_weight}
 use Rattle.knuth_search.specs.Following.{zero, stepped, IsCovered, IsOffered, IsBeaten, IsStepOf, NestedBy, Closes, PushedBy, Extends, Fills, SomePot, Offers}
-use Rattle.knuth_search.specs.Tables.{Queued, root_key, weight_in}
+use Rattle.knuth_search.specs.Offered.{offered_at}
+use Rattle.knuth_search.specs.Tables.{Queued}
 use Rattle.knuth_search.specs.Searching.{Begins, Follows, Turns, IsComplete}
 use Rattle.knuth_search.proofs.Filed.{covered_itself}
 use Rattle.knuth_search.proofs.Offering.{contains_cases, covered_in}
@@ -70,16 +69,16 @@ lighter_of u w less = elim (at_most-either u w) as (λ v. IsCappedAtMost u w) [ 
 
 -- a pair that leaves the queue
 module _ (steps : List MachineStep) (starts : List StateNo) (table : List Pot) (queue popped : Queued) (next : Pot)
-    (moved : IsPermutation queue.waiting (next ∷ popped.waiting)) (same : popped.offered ≡ queue.offered) (is : IsSearching steps starts table queue) where
+    (moved : (p : Pot) → Contains queue.waiting p → Contains (next ∷ popped.waiting) p) (same : popped.offered ≡ queue.offered) (is : IsSearching steps starts table queue) where
   was_offered : (p : Pot) → IsOffered popped p → IsOffered queue p
-  was_offered p o = record { weight = o.weight; found = subst (λ m. weight_in m (root_key p.root) p.state.0 ≡ Some o.weight) same o.found; at_most = o.at_most }
+  was_offered p o = record { weight = o.weight; found = subst (λ m. offered_at m p.root p.state ≡ Some o.weight) same o.found; at_most = o.at_most }
 
   still_offered : (p : Pot) → IsOffered queue p → IsOffered popped p
-  still_offered p o = record { weight = o.weight; found = subst (λ m. weight_in m (root_key p.root) p.state.0 ≡ Some o.weight) (sym same) o.found; at_most = o.at_most }
+  still_offered p o = record { weight = o.weight; found = subst (λ m. offered_at m p.root p.state ≡ Some o.weight) (sym same) o.found; at_most = o.at_most }
 
   -- what covered a pot covers it still, or has left
   waits_or_left : (p : Pot) → IsCovered queue.waiting p → IsCovered popped.waiting p ⊎ ((w : Weight) × (pot p.root p.state w ≡ next) × IsCappedAtMost w p.weight)
-  waits_or_left p c = elim (contains_cases next (pot p.root p.state c.weight) popped.waiting (Contains-permutation queue.waiting (next ∷ popped.waiting) (pot p.root p.state c.weight) moved c.listed))
+  waits_or_left p c = elim (contains_cases next (pot p.root p.state c.weight) popped.waiting (moved (pot p.root p.state c.weight) c.listed))
       as (λ v. IsCovered popped.waiting p ⊎ ((w : Weight) × (pot p.root p.state w ≡ next) × IsCappedAtMost w p.weight)) [
         | inl r ↦ inl (record { weight = c.weight; listed = r; at_most = c.at_most })
         | inr e ↦ inr (c.weight, e, c.at_most)
@@ -142,13 +141,13 @@ module _ (steps : List MachineStep) (starts : List StateNo) (table : List Pot) (
   searching_turn table' queue' (inr s) = turn_put table' queue' s.0 s.1
 
 -- before the first turn
-pub searching_begun : (steps : List MachineStep) (starts : List StateNo) (table : List Pot) (old queue : Queued) → table ≡ [] → old.offered ≡ [] → Offers (λ p. Begins starts p) old queue
+pub searching_begun : (steps : List MachineStep) (starts : List StateNo) (table : List Pot) (old queue : Queued) → table ≡ [] → ((root : Root) (state : StateNo) → offered_at old.offered root state ≡ None) → Offers (λ p. Begins starts p) old queue
     → IsSearching steps starts table queue
 searching_begun steps starts table old queue empty fresh offers = record {
   begun = λ a c. offers.all (pot Request a zero) (a, c, refl);
   closed = λ v p c e. absurd (none v (subst (λ t. Contains t v) empty c));
   stands = λ p o. elim (offers.held p o) as (λ v. IsCovered table p ⊎ IsCovered queue.waiting p) [
-    | inl b ↦ absurd (never p b.weight (subst (λ m. weight_in m (root_key p.root) p.state.0 ≡ Some b.weight) fresh b.found))
+    | inl b ↦ absurd (never (offered_at old.offered p.root p.state) b.weight (fresh p.root p.state) b.found)
     | inr b ↦ inr b
   ];
 }
@@ -156,8 +155,8 @@ searching_begun steps starts table old queue empty fresh offers = record {
     none : (p : Pot) → Contains [] p → ⊥
     none p c = omega (arith, c.1)
 
-    never : (p : Pot) (w : Weight) → weight_in [] (root_key p.root) p.state.0 ≡ Some w → ⊥
-    never p w e = cc
+    never : (m : Option Weight) (w : Weight) → m ≡ None → m ≡ Some w → ⊥
+    never m w gone e = cc
 
 abbrev root_of : walk.Origin StateNo → Root
 root_of walk.Request = Request

@@ -11,7 +11,8 @@ use Rattle.adapt_machine.specs.declared.MachineStep.{MachineStep}
 use Rattle.segment_grammar.specs.declared.potentials.Pot.{Pot}
 use Rattle.segment_grammar.specs.Pots.{pot}
 use Rattle.segment_grammar.specs.Index.{AreSteps, IsFlatFrom, IsPushFrom, IsPopAt}
-use Rattle.knuth_search.specs.Tables.{Queued, root_key, weight_in}
+use Rattle.knuth_search.specs.Offered.{offered_at}
+use Rattle.knuth_search.specs.Tables.{Queued}
 
 abbrev pub zero : Weight
 zero = cap (record { cost = 0; hops = 0 })
@@ -91,17 +92,17 @@ Fills steps table inner p = SomeStep (λ k p. SomePot table (λ prev p. Closes s
 -- the pair of `p` was offered at no more than its weight
 pub record IsOffered (queue : Queued) (p : Pot) : Type 0 where
   pub weight : Weight
-  pub found : weight_in queue.offered (root_key p.root) p.state.0 ≡ Some weight
+  pub found : offered_at queue.offered p.root p.state ≡ Some weight
   pub at_most : IsCappedAtMost weight p.weight
 
 -- `p` weighs no more than what its pair was offered at, if it was
 abbrev pub IsNoHeavier : Queued → Pot → Type 0
-IsNoHeavier queue p = (w : Weight) → weight_in queue.offered (root_key p.root) p.state.0 ≡ Some w → IsCappedAtMost p.weight w
+IsNoHeavier queue p = (w : Weight) → offered_at queue.offered p.root p.state ≡ Some w → IsCappedAtMost p.weight w
 
 -- the pair of `p` was offered at less
 pub record IsBeaten (queue : Queued) (p : Pot) : Type 0 where
   pub weight : Weight
-  pub found : weight_in queue.offered (root_key p.root) p.state.0 ≡ Some weight
+  pub found : offered_at queue.offered p.root p.state ≡ Some weight
   pub less : IsCappedAtMost p.weight weight → ⊥
 
 -- what `R` says is offered, at no more; what was offered or waited still is and does, and what is offered beside it waits
@@ -110,12 +111,6 @@ pub record Offers (R : Pot → Type 0) (old new : Queued) : Type 0 where
   pub waits : (p : Pot) → Contains old.waiting p → Contains new.waiting p
   pub held : (p : Pot) → IsOffered new p → IsOffered old p ⊎ IsCovered new.waiting p
   pub all : (p : Pot) → R p → IsOffered new p
-
--- the pot at a place relates to `p`
-pub record AtPlace (table : List Pot) (R : Pot → Pot → Type 0) (place : ℕ) (p : Pot) : Type 0 where
-  pub item : Pot
-  pub found : slice_get table place ≡ Some item
-  pub gives : R item p
 
 -- one of the first `n` items relates to `p`
 pub record Among {X : Type 0} (R : X → Pot → Type 0) (xs : List X) (n : ℕ) (p : Pot) : Type 0 where

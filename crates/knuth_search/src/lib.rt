@@ -2,7 +2,9 @@
 #![tactic(auto)]
 
 mod derived;
+mod lane;
 mod marks;
+mod offered;
 mod queue;
 mod run;
 #[cfg(test)]

@@ -18,6 +18,7 @@ use adapt_machine::Machine;
 use bumpalo::Bump;
 use deriv_arena::root;
 use ml_base::{NoMemory, Root, StateNo, Weight};
+use root_order::Plan;
 use segment_grammar::{Index, Pot};
 use std::alloc::Global;
 
@@ -106,8 +107,9 @@ fn search_table<'m, 'a>(
         index,
         arena,
     };
-    let mut table = Table::new(alloc, machine, starts)?;
-    let mut queue = Queue::new(alloc, machine, starts);
+    let mut table = Table::new(alloc, machine, index, starts)?;
+    let plan = Plan::new(alloc, machine)?;
+    let mut queue = Queue::new(alloc, machine, starts, plan)?;
     begin(arena, &mut queue, starts)?;
     for _ in 0..u64::MAX {
         let Some(next) = queue.pop() else {

@@ -1,9 +1,9 @@
-ghost use Rattle.std.specs.Prelude.{◌≡◌, ◌↔◌, ◌⊎◌, IsTrue, IfOk, List, Some, slice_get};
+ghost use Rattle.std.specs.Prelude.{◌≡◌, ◌⊎◌, IfOk, List, Some, slice_get};
 ghost use Rattle.ml_base.specs.declared.numbers.Root.TheVariants.{Entry};
 ghost use Rattle.segment_grammar.specs.Index.{IsFlatFrom, IsPushFrom, IsIndexOf};
 ghost use Rattle.adapt_machine.specs.declared.MachineStep.{MachineStep};
 ghost use Rattle.adapt_machine.specs.declared.MachineKind.TheVariants.{Push};
-ghost use Rattle.knuth_search.specs.Following.{ArePopsOf, stepped, IsStepOf, Enters, Meets, FlatBy, OpenedBy, NestedBy, Closes, PushedBy, Extends, Fills, SomeStep, SomePot, AtPlace, Offers};
+ghost use Rattle.knuth_search.specs.Following.{ArePopsOf, stepped, IsStepOf, Enters, Meets, FlatBy, OpenedBy, NestedBy, Closes, PushedBy, Extends, Fills, SomeStep, SomePot, Offers};
 ghost use Rattle.knuth_search.specs.Tables.{pot_of, IsKept};
 
 use crate::derived::Derived;
@@ -180,47 +180,6 @@ fn close<'m, 'a>(
     Ok(())
 }
 
-fn is_under(inner: Derived<'_>, entry: StateNo) -> bool
-    ensures { IsTrue result ↔ inner.entry.root ≡ Entry entry }
-{
-    inner.root == Root::Entry(entry)
-}
-
-fn is_at(prev: Derived<'_>, state: StateNo) -> bool
-    ensures { IsTrue result ↔ prev.entry.state ≡ state }
-{
-    prev.state == state
-}
-
-/// Offers what the pair, the push and the inner pair at a place give.
-fn nest_at<'m, 'a>(
-    setting: Setting<'m, 'a>,
-    table: &Table<'m, 'a>,
-    queue: &mut Queue<'m, 'a>,
-    prev: Derived<'a>,
-    number: StepNo,
-    place: u64,
-) -> Result<(), NoMemory>
-    requires table { table.now.task ≡ queue.old.task }
-    requires machine { queue.old.task.machine ≡ setting.machine.now }
-    requires index { IsIndexOf setting.machine.now setting.index.now }
-    requires kept { IsKept queue.old.task prev }
-    requires push { IsStepOf setting.machine.now.steps (IsPushFrom prev.state) number }
-    ensures task { queue.new.task ≡ queue.old.task }
-    ensures offers { IfOk result (λ _. Offers (AtPlace table.now.pots (λ inner p. Closes setting.entry.machine.now.steps (pot_of prev.entry) number inner p) place) queue.old queue.new) }
-{
-    let pushed = setting.machine.step(number);
-    let Some(inner) = table.item(place) else {
-        return Ok(());
-    };
-    if !is_under(inner, pushed.to) {
-        return Ok(());
-    }
-    let pops = setting.index.pops(inner.state, pushed.frame);
-    close(setting, queue, prev, number, inner, pops)?;
-    Ok(())
-}
-
 /// Offers what the pair, the push and each settled inner pair give.
 fn nests<'m, 'a>(
     setting: Setting<'m, 'a>,
@@ -238,9 +197,11 @@ fn nests<'m, 'a>(
     ensures offers { IfOk result (λ _. Offers (λ p. SomePot table.now.pots (λ inner p. Closes setting.entry.machine.now.steps (pot_of prev.entry) number inner p) p) queue.old queue.new) }
 {
     let pushed = setting.machine.step(number);
-    let places = table.under(pushed.to);
-    for number_of_place in 0..places.len() {
-        nest_at(setting, table, queue, prev, number, places[number_of_place])?;
+    let inners = table.under(pushed.to);
+    for place in 0..inners.len() {
+        let inner = inners[place];
+        let pops = setting.index.pops(inner.state, pushed.frame);
+        close(setting, queue, prev, number, inner, pops)?;
     }
     Ok(())
 }
@@ -287,35 +248,6 @@ fn pushes<'m, 'a>(
     Ok(())
 }
 
-/// Offers what the pair at a place, the push and the inner pair give.
-fn fill_at<'m, 'a>(
-    setting: Setting<'m, 'a>,
-    table: &Table<'m, 'a>,
-    queue: &mut Queue<'m, 'a>,
-    inner: Derived<'a>,
-    number: StepNo,
-    pops: &[StepNo],
-    place: u64,
-) -> Result<(), NoMemory>
-    requires table { table.now.task ≡ queue.old.task }
-    requires machine { queue.old.task.machine ≡ setting.machine.now }
-    requires inner { IsKept queue.old.task inner }
-    requires pops { ArePopsOf setting.machine.now number inner.state pops.now }
-    requires into { (t : MachineStep) × (slice_get setting.machine.now.steps number.0 ≡ Some t) × (t.kind ≡ Push) × (inner.root ≡ Entry t.to) }
-    ensures task { queue.new.task ≡ queue.old.task }
-    ensures offers { IfOk result (λ _. Offers (AtPlace table.now.pots (λ prev p. Closes setting.entry.machine.now.steps prev number (pot_of inner.entry) p) place) queue.old queue.new) }
-{
-    let pushed = setting.machine.step(number);
-    let Some(prev) = table.item(place) else {
-        return Ok(());
-    };
-    if !is_at(prev, pushed.from) {
-        return Ok(());
-    }
-    close(setting, queue, prev, number, inner, pops)?;
-    Ok(())
-}
-
 /// Offers what each pair that waits at the push gives with the inner pair.
 fn fill_by<'m, 'a>(
     setting: Setting<'m, 'a>,
@@ -333,18 +265,13 @@ fn fill_by<'m, 'a>(
     ensures offers { IfOk result (λ _. Offers (λ p. SomePot table.now.pots (λ prev p. Closes setting.entry.machine.now.steps prev number (pot_of inner.entry) p) p) queue.old queue.new) }
 {
     let pushed = setting.machine.step(number);
+    let waiting = table.at(pushed.from);
+    if waiting.is_empty() {
+        return Ok(());
+    }
     let pops = setting.index.pops(inner.state, pushed.frame);
-    let places = table.at(pushed.from);
-    for number_of_place in 0..places.len() {
-        fill_at(
-            setting,
-            table,
-            queue,
-            inner,
-            number,
-            pops,
-            places[number_of_place],
-        )?;
+    for place in 0..waiting.len() {
+        close(setting, queue, waiting[place], number, inner, pops)?;
     }
     Ok(())
 }

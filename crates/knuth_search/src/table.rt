@@ -1,31 +1,33 @@
-ghost use Rattle.std.specs.Prelude.{◌≡◌, ◌<◌, ◌∷◌, ◌++◌, [], IfOk, IfSome, IfNone, length, map, slice_get, Some, None, true, false};
+ghost use Rattle.std.specs.Prelude.{◌≡◌, ◌<◌, ◌∷◌, ◌++◌, [], IfOk, length, map, slice_get, Some, true, false};
 ghost use Rattle.std.specs.List.{All, Contains};
 ghost use Rattle.ml_base.specs.declared.numbers.StateNo.{StateNo};
 ghost use Rattle.ml_base.specs.declared.numbers.Root.TheVariants.{Entry};
+ghost use Rattle.adapt_machine.specs.Machine.{MachineValue};
+ghost use Rattle.segment_grammar.specs.Index.{IsIndexOf};
 ghost use Rattle.segment_grammar.specs.Rows.{row_of};
 ghost use Rattle.knuth_search.specs.Derived.{IsRootWithin};
-ghost use Rattle.knuth_search.specs.Tables.{pot_of, IsKept, IsLeftBy, ListsPlaces, KeepsRows};
+ghost use Rattle.knuth_search.specs.Tables.{pot_of, IsKept, IsLeftBy, IsUnder, IsAt, ListsPairs, Files};
 ghost use Rattle.adapt_machine.specs.declared.MachineKind.TheVariants.{Push, Pop};
 
 use crate::derived::Derived;
 use crate::marks::marks_of;
 use adapt_machine::{Machine, MachineKind};
 use ml_base::{NoMemory, Root, StateNo};
-use segment_grammar::Rows;
+use segment_grammar::{Index, Rows};
 use std::alloc::Global;
 use std::marker::Model;
 
-/// The settled pairs with their weights and derivations. In rows stand the places of those under an entered state, as far as a pop
-/// leaves them, and of those at a state that a push leaves.
+/// The settled pairs with their weights and derivations. In rows stand those under an entered state, as far as a pop leaves them, and
+/// those at a state that a push leaves, so that looking through a row reads memory in order.
 #[derive(Drop)]
 pub struct Table<'m, 'a> {
     machine: &'m Machine,
+    index: &'m Index,
     starts: &'m [StateNo],
     items: Vec<Derived<'a>>,
-    by_root: Rows<u64>,
-    by_state: Rows<u64>,
+    by_root: Rows<Derived<'a>>,
+    by_state: Rows<Derived<'a>>,
     pops: Vec<bool>,
-    pushes: Vec<bool>,
 }
 
 impl<'m, 'a> Model for Table<'m, 'a> {
@@ -36,68 +38,45 @@ impl<'m, 'a> Model for Table<'m, 'a> {
 
     ghost view = { λ t. record { task = record { machine = t.machine.now; starts = t.starts.now }; pots = map pot_of t.items.items } };
 
-    ghost invariant = { λ t. AreStored (record { machine = t.machine.now; starts = t.starts.now }) t.items.items t.by_root t.by_state t.pops.items t.pushes.items };
+    ghost invariant = { λ t. AreStored (record { machine = t.machine.now; starts = t.starts.now }) t.index.now t.items.items t.by_root t.by_state t.pops.items };
 }
 
-/// Files a place in a row.
-fn file(rows: &mut Rows<u64>, row: u64, place: u64) -> Result<(), NoMemory>
-    requires { row < length rows.old }
-    ensures kept { KeepsRows rows.old rows.new }
-    ensures here { IfOk result (λ _. Contains (row_of rows.new row) place) }
+/// Files a pair in the row of its root, if that is an entered state and a pop may leave the pair.
+fn file_inner<'a>(
+    rows: &mut Rows<Derived<'a>>,
+    pops: &[bool],
+    item: Derived<'a>,
+) -> Result<(), NoMemory>
+    requires within { item.state.0 < length pops.now }
+    requires root { IsRootWithin (length rows.old) item.root }
+    ensures files { Files IsUnder item.entry rows.old rows.new }
+    ensures here { IfOk result (λ _. slice_get pops.now item.entry.state.0 ≡ Some true → (x : StateNo) → item.entry.root ≡ Entry x → Contains (row_of rows.new x.0) item.entry) }
 {
-    rows.add(row, place)?;
-    Ok(())
-}
-
-/// Files a place in the row of the root, if that is an entered state.
-fn file_root(rows: &mut Rows<u64>, root: Root, place: u64) -> Result<(), NoMemory>
-    requires { IsRootWithin (length rows.old) root }
-    ensures kept { KeepsRows rows.old rows.new }
-    ensures here { IfOk result (λ _. (x : StateNo) → root ≡ Entry x → Contains (row_of rows.new x.0) place) }
-{
-    let Root::Entry(entry) = root else {
+    let Root::Entry(entry) = item.root else {
         return Ok(());
     };
-    file(rows, entry.0, place)?;
+    if !pops[item.state.0 as usize] {
+        return Ok(());
+    }
+    rows.add(entry.0, item)?;
     Ok(())
 }
 
-/// Files the place of a pair in the row of its root, if a pop may leave it.
-fn file_inner(
-    rows: &mut Rows<u64>,
-    pops: &[bool],
-    root: Root,
-    state: StateNo,
-    place: u64,
+/// Files a pair in the row of its state, if a push leaves that.
+fn file_waiting<'a>(
+    rows: &mut Rows<Derived<'a>>,
+    index: &Index,
+    item: Derived<'a>,
 ) -> Result<(), NoMemory>
-    requires within { state.0 < length pops.now }
-    requires root { IsRootWithin (length rows.old) root }
-    ensures kept { KeepsRows rows.old rows.new }
-    ensures here { IfOk result (λ _. slice_get pops.now state.0 ≡ Some true → (x : StateNo) → root ≡ Entry x → Contains (row_of rows.new x.0) place) }
+    requires within { item.state.0 < index.now.states }
+    requires row { item.state.0 < length rows.old }
+    ensures files { Files IsAt item.entry rows.old rows.new }
+    ensures here { IfOk result (λ _. (machine : MachineValue) → IsIndexOf machine index.now → IsLeftBy machine.steps Push item.entry.state → Contains (row_of rows.new item.entry.state.0) item.entry) }
 {
-    if !pops[state.0 as usize] {
+    if index.pushes(item.state).is_empty() {
         return Ok(());
     }
-    file_root(rows, root, place)?;
-    Ok(())
-}
-
-/// Files the place of a pair in the row of its state, if a push leaves that.
-fn file_waiting(
-    rows: &mut Rows<u64>,
-    pushes: &[bool],
-    state: StateNo,
-    place: u64,
-) -> Result<(), NoMemory>
-    requires within { state.0 < length pushes.now }
-    requires row { state.0 < length rows.old }
-    ensures kept { KeepsRows rows.old rows.new }
-    ensures here { IfOk result (λ _. slice_get pushes.now state.0 ≡ Some true → Contains (row_of rows.new state.0) place) }
-{
-    if !pushes[state.0 as usize] {
-        return Ok(());
-    }
-    file(rows, state.0, place)?;
+    rows.add(item.state.0, item)?;
     Ok(())
 }
 
@@ -106,50 +85,39 @@ impl<'m, 'a> Table<'m, 'a> {
     pub fn new(
         alloc: Global,
         machine: &'m Machine,
+        index: &'m Index,
         starts: &'m [StateNo],
     ) -> Result<Table<'m, 'a>, NoMemory>
+        requires index { IsIndexOf machine.now index.now }
         ensures task { IfOk result (λ t. t.task ≡ record { machine = machine.now; starts = starts.now }) }
         ensures pots { IfOk result (λ t. t.pots ≡ []) }
     {
         let by_root = Rows::new(alloc, machine.states())?;
         let by_state = Rows::new(alloc, machine.states())?;
         let pops = marks_of(alloc, machine, MachineKind::Pop)?;
-        let pushes = marks_of(alloc, machine, MachineKind::Push)?;
         Ok(Table {
             machine,
+            index,
             starts,
             items: Vec::new(alloc),
             by_root,
             by_state,
             pops,
-            pushes,
         })
     }
 
-    /// The pair at a place, if there is one.
-    pub fn item(&self, place: u64) -> Option<Derived<'a>>
-        ensures some { IfSome result (λ d. slice_get self.now.pots place ≡ Some (pot_of d)) }
-        ensures none { IfNone result (slice_get self.now.pots place ≡ None) }
-        ensures kept { IfSome result (λ d. IsKept self.now.task d) }
-    {
-        let Some(item) = self.items.get(place as usize) else {
-            return None;
-        };
-        Some(*item)
-    }
-
-    /// The places of the pairs under an entered state that pops leave.
-    pub fn under(&self, entry: StateNo) -> &[u64]
+    /// The pairs under an entered state that pops leave.
+    pub fn under(&self, entry: StateNo) -> &[Derived<'a>]
         requires { entry.0 < self.now.task.machine.states }
-        ensures { ListsPlaces self.now.pots (λ p. (p.root ≡ Entry entry) × IsLeftBy self.now.task.machine.steps Pop p.state) result.now }
+        ensures { ListsPairs self.now.task self.now.pots Pop (IsUnder entry) result.now }
     {
         self.by_root.row(entry.0)
     }
 
-    /// The places of the pairs at a state, if a push leaves it.
-    pub fn at(&self, state: StateNo) -> &[u64]
+    /// The pairs at a state, if a push leaves it.
+    pub fn at(&self, state: StateNo) -> &[Derived<'a>]
         requires { state.0 < self.now.task.machine.states }
-        ensures { ListsPlaces self.now.pots (λ p. (p.state ≡ state) × IsLeftBy self.now.task.machine.steps Push p.state) result.now }
+        ensures { ListsPairs self.now.task self.now.pots Push (IsAt state) result.now }
     {
         self.by_state.row(state.0)
     }
@@ -176,10 +144,8 @@ impl<'m, 'a> Table<'m, 'a> {
         ensures task { self.new.task ≡ self.old.task }
         ensures pots { IfOk result (λ _. self.new.pots ≡ self.old.pots ++ pot_of next.entry ∷ []) }
     {
-        let place = self.items.len() as u64;
-        let (root, state) = (next.root, next.state);
-        file_inner(&mut self.by_root, self.pops.as_slice(), root, state, place)?;
-        file_waiting(&mut self.by_state, self.pushes.as_slice(), state, place)?;
+        file_inner(&mut self.by_root, self.pops.as_slice(), next)?;
+        file_waiting(&mut self.by_state, self.index, next)?;
         if self.items.push(next).is_err() {
             return Err(NoMemory);
         }

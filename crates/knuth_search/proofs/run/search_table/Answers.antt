@@ -4,13 +4,13 @@ use Rattle.knuth_search.proofs.Turning.{searching_begun, searching_turn, is_comp
 use Rattle.knuth_search.proofs.run.search_table.Goals as goal
 
 pub begin-requires-clause-within : goal.begin-requires-clause-within
-begin-requires-clause-within c a listed = subst (λ t. a.0 < t.machine.states) (sym c.new-queue.ensures.task) (c.requires.starts a listed)
+begin-requires-clause-within c a listed = subst (λ t. a.0 < t.machine.states) (sym c.in_ok-queue.ensures.task) (c.requires.starts a listed)
 
 pub loop-init : goal.loop-init
 loop-init c = record {
-  searching = searching_begun c.args.machine.now.steps c.args.starts.now c.in_ok-table.table.pots c.new-queue.result c.begin.new.queue c.in_ok-table.ensures.pots c.new-queue.ensures.offered c.in_ok-begin.ensures.offers;
+  searching = searching_begun c.args.machine.now.steps c.args.starts.now c.in_ok-table.table.pots c.in_ok-queue.queue c.begin.new.queue c.in_ok-table.ensures.pots c.in_ok-queue.ensures.offered c.in_ok-begin.ensures.offers;
   table = c.in_ok-table.ensures.task;
-  queue = c.begin.ensures.task ∙ c.new-queue.ensures.task;
+  queue = c.begin.ensures.task ∙ c.in_ok-queue.ensures.task;
 }
 
 pub loop-preserved : goal.loop-preserved

@@ -1,22 +1,31 @@
-use Rattle.std.proofs.Common.{arith, refl, ap, ◌≡◌, ◌∙◌}
-use Rattle.std.proofs.Math.ListN.{get_or}
+use Rattle.std.proofs.Common.{arith, length, sym, ap, ◌≡◌, ◌∙◌}
+use Rattle.std.proofs.lemmas.Grind.{common_steps}
 use Rattle.std.proofs.lemmas.Option.{slice_get-get_or}
-use Rattle.knuth_search.specs.Following.{Closes, SomePot, AtPlace}
-use Rattle.knuth_search.specs.Tables.{IsLeftBy, pot_of}
-use Rattle.knuth_search.proofs.Offering.{offers_more, offers_listed, from_here, places_listed, left_by}
 use Rattle.adapt_machine.specs.declared.MachineKind.TheVariants.{Push}
+use Rattle.knuth_search.specs.Following.{Closes, SomePot}
+use Rattle.knuth_search.specs.Tables.{IsAt, pot_of}
+use Rattle.knuth_search.proofs.Offering.{offers_none, offers_more, offers_listed, fill_enters, kept_at, passes_at, waiting_listed}
 use Rattle.knuth_search.proofs.settle.fill_by.Goals as goal
 
-pub fill_at-requires-clause-pops : goal.fill_at-requires-clause-pops
-fill_at-requires-clause-pops c = record { step = c.step-pushed.result; found = c.step-pushed.ensures.found; listed = c.pops-pops.ensures c.args.setting.machine.now c.requires.index }
+pub returns-then-is_empty-clause-offers : goal.returns-then-is_empty-clause-offers
+returns-then-is_empty-clause-offers c =
+    let empty : length c.at-waiting.result.now ≡ 0 = grind (arith, common_steps) in
+    offers_none (λ p. SomePot c.args.table.now.pots (λ prev p. Closes c.args.setting.machine.now.steps prev c.args.number (pot_of c.args.inner) p) p) _
+    (λ p s. omega (arith, empty, (waiting_listed c.args.table.now.task c.args.table.now.pots c.at-waiting.result.now c.args.setting.machine.now.steps (ap (λ t. t.machine.steps) c.requires.table ∙ ap (λ m. m.steps) c.requires.machine) c.args.number c.step-pushed.result c.step-pushed.ensures.found c.at-waiting.ensures (pot_of c.args.inner) p s).1.1))
 
-pub loop-number_of_place-preserved : goal.loop-number_of_place-preserved
-loop-number_of_place-preserved c = record {
-  offers = offers_more (λ i p. AtPlace c.args.table.now.pots (λ prev p. Closes c.args.setting.machine.now.steps prev c.args.number (pot_of c.args.inner) p) i p) c.at-places.result.now c.loop-number_of_place.number_of_place (get_or c.at-places.result.now c.loop-number_of_place.number_of_place 0) (slice_get-get_or c.at-places.result.now c.loop-number_of_place.number_of_place 0 c.loop-number_of_place-test.true) _ _ _ c.loop-number_of_place.invariant.offers c.in_ok-fill_at.ensures.offers;
-  task = c.fill_at.ensures.task ∙ c.loop-number_of_place.invariant.task;
+pub close-requires-clause-kept : goal.close-requires-clause-kept
+close-requires-clause-kept c = kept_at c.args.table.now.task c.args.table.now.pots Push (IsAt c.step-pushed.result.from) c.at-waiting.result.now c.at-waiting.ensures c.loop-place.place _ c.loop-place-test.true c.loop-place.queue.task (c.loop-place.invariant.task ∙ sym c.requires.table)
+
+pub close-requires-clause-enters : goal.close-requires-clause-enters
+close-requires-clause-enters c = fill_enters c.args.setting.machine.now.steps _ c.args.number (pot_of c.args.inner) c.step-pushed.result c.step-pushed.ensures.found c.requires.into
+    (passes_at c.args.table.now.task c.args.table.now.pots Push (IsAt c.step-pushed.result.from) c.at-waiting.result.now c.at-waiting.ensures c.loop-place.place _ c.loop-place-test.true)
+
+pub loop-place-preserved : goal.loop-place-preserved
+loop-place-preserved c = record {
+  offers = offers_more (λ d p. Closes c.args.setting.machine.now.steps (pot_of d) c.args.number (pot_of c.args.inner) p) c.at-waiting.result.now c.loop-place.place _ (slice_get-get_or c.at-waiting.result.now c.loop-place.place _ c.loop-place-test.true) _ _ _ c.loop-place.invariant.offers c.in_ok-close.ensures.offers;
+  task = c.close.ensures.task ∙ c.loop-place.invariant.task;
 }
 
 pub returns-clause-offers : goal.returns-clause-offers
-returns-clause-offers c = offers_listed (λ i p. AtPlace c.args.table.now.pots (λ prev p. Closes c.args.setting.machine.now.steps prev c.args.number (pot_of c.args.inner) p) i p) c.at-places.result.now (λ p. SomePot c.args.table.now.pots (λ prev p. Closes c.args.setting.machine.now.steps prev c.args.number (pot_of c.args.inner) p) p) c.loop-number_of_place.number_of_place (omega arith)
-    (λ p s. places_listed c.args.table.now.pots (λ prev p. Closes c.args.setting.machine.now.steps prev c.args.number (pot_of c.args.inner) p) (λ q. (q.state ≡ c.step-pushed.result.from) × IsLeftBy c.args.table.now.task.machine.steps Push q.state) c.at-places.result.now c.at-places.ensures
-    (λ item q g. (from_here c.args.setting.machine.now.steps item c.args.number (pot_of c.args.inner) c.step-pushed.result c.step-pushed.ensures.found g.gives.meets.enters, left_by c.args.table.now.task c.args.setting.machine.now.steps c.args.setting.machine.now (ap (λ t. t.machine) c.requires.table ∙ c.requires.machine) refl Push item.state c.args.number.0 g.gives.meets.enters.push.step g.gives.meets.enters.push.found g.gives.meets.enters.push.passes.0 g.gives.meets.enters.push.passes.1)) p s) _ _ c.loop-number_of_place.invariant.offers
+returns-clause-offers c = offers_listed (λ d p. Closes c.args.setting.machine.now.steps (pot_of d) c.args.number (pot_of c.args.inner) p) c.at-waiting.result.now (λ p. SomePot c.args.table.now.pots (λ prev p. Closes c.args.setting.machine.now.steps prev c.args.number (pot_of c.args.inner) p) p) c.loop-place.place (omega arith)
+    (waiting_listed c.args.table.now.task c.args.table.now.pots c.at-waiting.result.now c.args.setting.machine.now.steps (ap (λ t. t.machine.steps) c.requires.table ∙ ap (λ m. m.steps) c.requires.machine) c.args.number c.step-pushed.result c.step-pushed.ensures.found c.at-waiting.ensures (pot_of c.args.inner)) _ _ c.loop-place.invariant.offers
