@@ -1,4 +1,4 @@
-pub mod Heaps
+pub mod Buckets
 pub mod Lanes
 pub mod Keys
 pub mod Filed

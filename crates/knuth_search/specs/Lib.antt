@@ -1,6 +1,7 @@
 pub mod Derived
 pub mod Offered
 pub mod Tables
+pub mod Buckets
 pub mod Lanes
 pub mod Following
 pub mod Searching

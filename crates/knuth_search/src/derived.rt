@@ -5,14 +5,12 @@ use deriv_arena::Deriv;
 use ml_base::{Root, StateNo, Weight};
 use segment_grammar::Pot;
 
-/// A pair of a root and a state with a weight and a derivation of it. The order is that of the weights, then of the pairs.
+/// A pair of a root and a state with a weight and a derivation of it.
 #[derive(Clone, Copy)]
-#[derive_where(PartialEq, Eq, PartialOrd, Ord)]
 pub struct Derived<'a> {
     pub weight: Weight,
     pub root: Root,
     pub state: StateNo,
-    #[derive_where(skip)]
     pub deriv: &'a Deriv<'a>,
 }
 

@@ -1,4 +1,5 @@
 ghost use Rattle.std.specs.Prelude.{◌≡◌, ◌<◌, ℕ, true, length, slice_get, Some, IfOk};
+ghost use Rattle.adapt_machine.specs.declared.MachineKind.TheVariants.{Pop};
 ghost use Rattle.knuth_search.specs.Tables.{AreMarks};
 
 use adapt_machine::{Machine, MachineKind, MachineStep};
@@ -17,26 +18,30 @@ fn unmarked(alloc: Global, count: u64) -> Result<Vec<bool>, NoMemory>
     Ok(marks)
 }
 
-/// Marks the state that the step leaves, if it is of this kind.
-fn mark(marks: &mut Vec<bool>, step: MachineStep, kind: MachineKind)
+/// Marks the state that the step leaves, if it is a pop.
+fn mark(marks: &mut Vec<bool>, step: MachineStep)
     requires { step.from.0 < length marks.old.items }
     ensures rooms { length marks.new.items ≡ length marks.old.items }
-    ensures here { step.kind ≡ kind → slice_get marks.new.items step.from.0 ≡ Some true }
+    ensures here { step.kind ≡ Pop → slice_get marks.new.items step.from.0 ≡ Some true }
     ensures kept { (i : ℕ) → slice_get marks.old.items i ≡ Some true → slice_get marks.new.items i ≡ Some true }
 {
-    if step.kind != kind {
+    if step.kind != MachineKind::Pop {
         return;
     }
     marks[step.from.0 as usize] = true;
 }
 
-/// The states that a step of this kind leaves, by number.
-pub fn marks_of(alloc: Global, machine: &Machine, kind: MachineKind) -> Result<Vec<bool>, NoMemory>
-    ensures { IfOk result (λ marks. AreMarks machine.now kind marks.items) }
+/// The states that a pop leaves, by number. The steps are passed through where the machine has frames.
+pub fn popped_states(alloc: Global, machine: &Machine) -> Result<Vec<bool>, NoMemory>
+    ensures { IfOk result (λ marks. AreMarks machine.now Pop marks.items) }
 {
     let mut marks = unmarked(alloc, machine.states())?;
-    for number in 0..machine.steps() {
-        mark(&mut marks, machine.step(StepNo(number)), kind);
+    let steps = machine.steps();
+    if machine.frames() == 0 {
+        return Ok(marks);
+    }
+    for number in 0..steps {
+        mark(&mut marks, machine.step(StepNo(number)));
     }
     Ok(marks)
 }

@@ -10,8 +10,8 @@ ghost use Rattle.knuth_search.specs.Tables.{pot_of, IsKept, IsLeftBy, IsUnder, I
 ghost use Rattle.adapt_machine.specs.declared.MachineKind.TheVariants.{Push, Pop};
 
 use crate::derived::Derived;
-use crate::marks::marks_of;
-use adapt_machine::{Machine, MachineKind};
+use crate::marks::popped_states;
+use adapt_machine::Machine;
 use ml_base::{NoMemory, Root, StateNo};
 use segment_grammar::{Index, Rows};
 use std::alloc::Global;
@@ -92,9 +92,9 @@ impl<'m, 'a> Table<'m, 'a> {
         ensures task { IfOk result (λ t. t.task ≡ record { machine = machine.now; starts = starts.now }) }
         ensures pots { IfOk result (λ t. t.pots ≡ []) }
     {
-        let by_root = Rows::new(alloc, machine.states())?;
-        let by_state = Rows::new(alloc, machine.states())?;
-        let pops = marks_of(alloc, machine, MachineKind::Pop)?;
+        let by_root = Rows::new(alloc, machine.states());
+        let by_state = Rows::new(alloc, machine.states());
+        let pops = popped_states(alloc, machine)?;
         Ok(Table {
             machine,
             index,
