@@ -1,15 +1,19 @@
 #!/usr/bin/env python3
-"""Compares `finder find` and `finder route` with a plain reading of docs/MODEL.md, over small random networks.
+"""Compares what `finder` says with a plain reading of docs/MODEL.md, over small random networks.
 
     python3 checks/random_networks.py PROGRAM [--count N] [--seed N]
 
 Each network has one to three files, with aliases over the files, labels, groups, swapping, Nodes, conversions, adaptations that
 may nest without end, and costs from 0 to 2^64 - 1. The reference knows nothing of machines or derivations. For the outcome it takes
 all labels, and lowers the weight of each pair of a root and a place until nothing changes. For the potentials it does the same
-over the kept labels. The hops of a document are replayed, and its flags and rules made anew from them. A difference is printed with
-its files, and the exit status is 1.
+over the kept labels. The hops of a document are replayed, and its flags and rules made anew from them. Then `check` is to say valid to what
+`find` prints, and `replay` to carry what `route` prints; and of documents with a line dropped, doubled, moved or changed, `check` is to say
+what tools/verify says, a second checker that was written from docs/FORMATS.md. A difference is printed with its files, and the exit status
+is 1.
 """
 import argparse
+import importlib.machinery
+import importlib.util
 import json
 import os
 import random
@@ -467,10 +471,71 @@ def check_document(network, request, lines, least, potentials):
     return None
 
 
+# ---- documents
+
+def load_verify():
+    """The second checker, as a module."""
+    path = os.path.join(os.path.dirname(os.path.abspath(__file__)), os.pardir, "tools", "verify")
+    loader = importlib.machinery.SourceFileLoader("verify", path)
+    module = importlib.util.module_from_spec(importlib.util.spec_from_loader("verify", loader))
+    sys.modules["verify"] = module
+    loader.exec_module(module)
+    return module
+
+
+VERIFY = load_verify()
+
+
+def damaged(rng, text):
+    """The document with a few lines dropped, doubled, moved or changed in a word."""
+    lines = text.splitlines()
+    for _ in range(rng.randint(1, 2)):
+        at = rng.randrange(len(lines))
+        change = rng.randrange(4)
+        if change == 0 and len(lines) > 1:
+            del lines[at]
+        elif change == 1:
+            lines.insert(at, lines[at])
+        elif change == 2:
+            other = rng.randrange(len(lines))
+            lines[at], lines[other] = lines[other], lines[at]
+        else:
+            words = lines[at].split(" ")
+            words[rng.randrange(len(words))] = rng.choice(["0", "1", "2", "7", "any", "-", "past", "again", rng.choice(words)])
+            lines[at] = " ".join(words)
+    return "\n".join(lines) + ("\n" if rng.random() < 0.9 else "")
+
+
+def said_of(program, command, text, folder, names):
+    """What a command says of a document, with its status."""
+    name = os.path.join(folder, "answer")
+    with open(name, "w") as out:
+        out.write(text)
+    run = subprocess.run([program, command, name, *names], capture_output=True, text=True)
+    return run.returncode, run.stdout
+
+
+def examined(program, folder, names, want, found, routed, rng):
+    """What `check` or `replay` says of these documents that is not so, or nothing."""
+    hops = [line for line in routed.splitlines() if line.startswith("hop ")]
+    order = "numbered" if any(" again " in line for line in hops) else "any-order"
+    replayed = (0, f"carried {len(hops)} {order}\n") if want.startswith("outcome found") else (9, "not-carried 0 outcome\n")
+    contents = [open(name, "rb").read() for name in names]
+    rows = [("check", found, (0, want.replace("outcome", "valid", 1) + "\n")), ("replay", routed, replayed)]
+    for text in (routed, damaged(rng, found), damaged(rng, found), damaged(rng, found)):
+        status, line = VERIFY.verdict(text.encode(), contents)
+        rows.append(("check", text, (status, line.rstrip("\n") + "\n")))
+    for command, text, due in rows:
+        said = said_of(program, command, text, folder, names)
+        if said != due:
+            return f"{command}: {said}, wanted {due}, of\n{text}"
+    return None
+
+
 # ---- comparing
 
-def difference(program, folder, domains, request):
-    """What `find` or `route` prints that is not so, or nothing."""
+def difference(program, folder, domains, request, rng):
+    """What is printed for the request that is not so, or nothing."""
     names = []
     for number, domain in enumerate(domains):
         name = os.path.join(folder, f"{number}.json")
@@ -480,6 +545,7 @@ def difference(program, folder, domains, request):
     network = Network(domains)
     want, least = outcome(network, request)
     status = {"none": 1, "past": 7, "long": 8, "found": 0}[want.split(" ")[1]]
+    documents = []
     for command, potentials in (("find", potential_lines(network, request)), ("route", [])):
         run = subprocess.run([program, command, *request, *names], capture_output=True, text=True)
         lines = run.stdout.splitlines()
@@ -489,7 +555,8 @@ def difference(program, folder, domains, request):
         told = check_document(network, request, lines[3:], least if status == 0 else None, potentials)
         if told is not None:
             return f"{command}: {told}"
-    return None
+        documents.append(run.stdout)
+    return examined(program, folder, names, want, *documents, rng)
 
 
 def random_request(rng, network, ids):
@@ -526,7 +593,7 @@ def main():
             word = word.split(" ")[1]
             seen[word] = seen.get(word, 0) + 1
             longest = max(longest, least[1] if least else 0)
-            told = difference(options.program, folder, domains, request)
+            told = difference(options.program, folder, domains, request, rng)
             if told is not None:
                 print(f"seed {seed}: {' '.join(request)}: {told}")
                 print(json.dumps(domains))

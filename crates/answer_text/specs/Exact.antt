@@ -6,20 +6,21 @@ use Rattle.circuit_spec.specs.declared.hops.Outcome.{Outcome}
 use Rattle.circuit_spec.specs.declared.hops.Outcome.TheVariants.{Found, NoWalk, Past, Long}
 use Rattle.circuit_spec.specs.Network.{Topology}
 use Rattle.circuit_spec.specs.Steps.{IsOutcome, Walk, weight_of}
+use Rattle.circuit_spec.specs.Kept.{AreOverKept}
 use Rattle.circuit_spec.specs.Faults.{IsKnown}
 use Rattle.domain_config.specs.Numbering.{AreRulesOf}
 use Rattle.answer_text.specs.declared.answer.Answer.{Answer}
 use Rattle.answer_text.specs.Certificate.{AreFlagged}
 use Rattle.answer_text.specs.Potentials.{ArePotentials}
 
--- what is found is a walk of exactly this weight, and no hops are listed otherwise
+-- what is found is a walk of exactly this weight, over kept labels, and no hops are listed otherwise
 abbrev pub AreHopsOf : Topology → Request → Outcome → List Hop → Type 0
-AreHopsOf T r (Found cost hops) list = Walk T r list × (weight_of T list ≡ record { cost = cost; hops = hops })
+AreHopsOf T r (Found cost hops) list = Walk T r list × (weight_of T list ≡ record { cost = cost; hops = hops }) × AreOverKept T r list
 AreHopsOf T r NoWalk list = list ≡ []
 AreHopsOf T r Past list = list ≡ []
 AreHopsOf T r (Long cost hops) list = list ≡ []
 
--- the outcome of a known request, with a walk where it is found, its flags and rules, and the potentials of the request
+-- the outcome of a known request, with a walk over kept labels where it is found, its flags and rules, and the potentials of the request
 pub record IsExactAnswer (T : Topology) (a : Answer) : Type 0 where
   pub known : IsKnown T a.request
   pub outcome : IsOutcome T a.request a.outcome

@@ -1,14 +1,9 @@
-pub mod Fronts
-pub mod Steps
-pub mod Stores
-pub mod Numbered
-pub mod Spots
-pub mod Few
-pub mod Passing
 pub mod Settled
-pub mod Shown
 pub mod Sentences
-pub mod Circuits
+pub mod Headlined
 pub mod Causes
-pub mod Counting
+pub mod Stopped
+pub mod Statuses
 pub mod Counted
+mod Drilled
+mod Examining

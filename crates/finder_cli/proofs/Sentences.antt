@@ -1,5 +1,5 @@
 -- The sentences on a run follow from what the words may be answered.
-use Rattle.std.proofs.Common.{◌≡◌, ◌≢◌, ◌∙◌, ◌↔◌, refl, ap, subst, ℕ, Bool, List, Option, Some, None, IsSome, inl, inr, arith}
+use Rattle.std.proofs.Common.{◌≡◌, ◌≢◌, ◌∙◌, ◌↔◌, refl, ap, subst, ℕ, Bool, List, [], Option, Some, None, IsSome, inl, inr, arith}
 use Rattle.std.proofs.lemmas.Bool.{false≢true}
 use Rattle.io_edges.specs.Counts.{Rose}
 use Rattle.io_edges.specs.Reads.{Store, Contents}
@@ -11,18 +11,20 @@ use Rattle.circuit_spec.specs.Faults.{IsAccepted, IsKnown}
 use Rattle.circuit_spec.specs.Network.{Topology}
 use Rattle.circuit_spec.specs.Steps.{IsOutcome, Walk}
 use Rattle.circuit_spec.proofs.OneOutcome.{one_outcome}
-use Rattle.finder_cli.specs.declared.reply.Reply.{Reply}
-use Rattle.finder_cli.specs.declared.words.Command.{Command}
-use Rattle.finder_cli.specs.declared.words.Command.TheVariants.{Find}
-use Rattle.finder_cli.specs.Accepting.{IfAccepted}
+use Rattle.replies.specs.declared.reply.Reply.{Reply}
+use Rattle.command_words.specs.declared.words.Command.{Command}
+use Rattle.command_words.specs.declared.words.Command.TheVariants.{Find}
+use Rattle.file_words.specs.Accepting.{IfAccepted}
 use Rattle.finder_cli.specs.Answers.{CommandAnswers, Answers}
-use Rattle.finder_cli.specs.Finding.{IsAnswered, IsFound}
-use Rattle.finder_cli.specs.Reading.{file_words}
-use Rattle.finder_cli.specs.Sentences.{Tells, Ran, Asks, AsksAccepted, AsksKnown, FindsNone, FindsPast, FindsLong, FindsUnknown}
-use Rattle.finder_cli.specs.Status.{code, status_of}
-use Rattle.finder_cli.specs.Words.{Words}
-use Rattle.finder_cli.proofs.Passing.{over-domains}
-use Rattle.finder_cli.proofs.Settled.{answered-known, answered-outcome, rejected-apart, refusal-apart}
+use Rattle.find_command.specs.Finding.{IsAnswered, IsFound}
+use Rattle.file_words.specs.Reading.{file_words}
+use Rattle.finder_cli.specs.Premises.{Tells, Ran, Asks, AsksAccepted, AsksKnown}
+use Rattle.finder_cli.specs.Sentences.{FindsNone, FindsPast, FindsLong, FindsUnknown}
+use Rattle.replies.specs.Status.{code, status_of}
+use Rattle.command_words.specs.Words.{Words}
+use Rattle.file_words.proofs.Accepted.{after-accepted}
+use Rattle.file_words.proofs.Passing.{over-domains}
+use Rattle.find_command.proofs.Searched.{answer-of, answered-known, answered-outcome, refusal-apart}
 
 abbrev Told : Type 0
 Told = List ℕ → Option (List ℕ)
@@ -39,22 +41,13 @@ told-found : (contents : Contents) (before after : Store) (words : Words) (r : R
 told-found None before after words r T reply e told calm asks may = absurd (false≢true told)
 told-found (Some contents) before after words r T reply e told calm asks may =
     let found : CommandAnswers (Some (Find r asks.names asks.potentials)) before after reply = subst (λ (c : Option Command). CommandAnswers c before after reply) asks.command may in
-    over-domains before after contents (file_words 1 asks.names) (IfAccepted (IsFound r asks.potentials)) T reply e calm asks.domains found
+    over-domains before after contents [] (file_words 1 asks.names) (λ held. IfAccepted (IsFound r asks.potentials)) [] T reply e calm tt asks.domains found
 
 pub asked : (before after : Store) (words : Words) (r : Request) (T : Topology) (reply : Reply) → Tells before after → (asks : Asks words before r T) → Answers words before after reply → IfAccepted (IsFound r asks.potentials) T reply
 asked before after words r T reply tells asks may = told-found before.contents before after words r T reply refl tells.0 tells.1 asks may
 
-after-accepted : (r : Request) (potentials : Bool) (T : Topology) (reply : Reply) → IsAccepted T → IfAccepted (IsFound r potentials) T reply → IsFound r potentials T reply
-after-accepted r potentials T reply accepted (inl p) = absurd (rejected-apart T reply p accepted)
-after-accepted r potentials T reply accepted (inr p) = p.1
-
 pub found-in : (before after : Store) (words : Words) (r : Request) (T : Topology) (reply : Reply) → Tells before after → (asks : AsksAccepted words before r T) → Answers words before after reply → IsFound r asks.asks.potentials T reply
-found-in before after words r T reply tells asks may = after-accepted r asks.asks.potentials T reply asks.accepted (asked before after words r T reply tells asks.asks may)
-
--- the reply to a known request is an answer
-answer-of : (T : Topology) (r : Request) (potentials : Bool) (reply : Reply) → IsKnown T r → IsFound r potentials T reply → IsAnswered T r potentials reply
-answer-of T r potentials reply known (inl p) = absurd (refusal-apart T r p.fault p.told p.cause known)
-answer-of T r potentials reply known (inr p) = p
+found-in before after words r T reply tells asks may = after-accepted (IsFound r asks.asks.potentials) T reply asks.accepted (asked before after words r T reply tells asks.asks may)
 
 pub answer-in : (before after : Store) (words : Words) (r : Request) (T : Topology) (reply : Reply) → Tells before after → (asks : AsksKnown words before r T) → Answers words before after reply → IsAnswered T r asks.asks.asks.potentials reply
 answer-in before after words r T reply tells asks may = answer-of T r asks.asks.asks.potentials reply asks.known (found-in before after words r T reply tells asks.asks may)

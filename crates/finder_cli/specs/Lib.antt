@@ -1,13 +1,6 @@
-pub mod Words
-pub mod Spells
-pub mod Status
-pub mod Lines
-pub mod Through
-pub mod Pages
-pub mod Reading
-pub mod Accepting
-pub mod Surveying
-pub mod Finding
+pub mod Usage
 pub mod Answers
-pub mod Printed
+pub mod Premises
+pub mod Headline
 pub mod Sentences
+pub mod Examining

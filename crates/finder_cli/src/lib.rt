@@ -1,27 +1,9 @@
-//! The words, the top call and the texts of the program.
+//! One run of the program: what its words ask for is done, its reply is printed, and its status answered.
+//!
+//! `specs/Answers.antt` says how words may be answered. `specs/Headline.antt` and `specs/Sentences.antt` say it in the words of the network that the files
+//! describe. Both are clauses of `run`.
 #![tactic(auto)]
 
-mod accepting;
-mod fault_lines;
-mod finding;
-mod lines;
-mod page;
-mod parsing;
-mod reading;
-mod reply;
-mod surveying;
-mod text;
 mod top;
-mod words;
 
-pub use page::Page;
-pub use reading::FileWord;
-pub use reply::{Reply, Status, Stop, print};
-pub use text::{Text, Texts};
 pub use top::run;
-pub use words::{Command, End, NameList, WordsFault, parse_words};
-
-#[cfg(test)]
-mod samples;
-#[cfg(test)]
-mod tests;

@@ -84,7 +84,7 @@ module _ (T : Topology) (r : Request) (b : BuiltValue) (sound : IsSound T) (is :
     weighs = best.cheapest.weight;
     walks = λ hops are.
         let walk = segment_walks best.target (unfolding_of d) best.listed best.cheapest.segment hops are in
-        ((walk.0.ends, walk.0.joins), walk.1);
+        ((walk.0.ends, walk.0.joins), walk.1, walk.0.kept);
     outcome = all_walks (outcome_of (kept_weight d)) (least_outcome T (IsWalkOverKept T r) (kept_weight d) (least_walk d best));
   }
 
@@ -131,7 +131,7 @@ pub hops_found : (T : Topology) (r : Request) (b : BuiltValue) (w : Weight) (ks 
 hops_found T r b w ks cost hops list c e are =
     let walk = c.walks list are in
     let k = found_weight w cost hops e in
-    (walk.0, walk.1 ∙ exact_weight (full_weight_of b.machine.steps ks) cost hops (c.weighs ∙ k.0) k.1)
+    (walk.0, walk.1 ∙ exact_weight (full_weight_of b.machine.steps ks) cost hops (c.weighs ∙ k.0) k.1, walk.2)
 
 -- no hops are listed where none are found
 pub hops_unfound : (T : Topology) (r : Request) (o : Outcome) (list : List Hop) → ((cost hops : ℕ) → o ≡ Found cost hops → ⊥) → list ≡ [] → AreHopsOf T r o list

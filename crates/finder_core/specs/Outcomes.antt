@@ -11,6 +11,7 @@ use Rattle.circuit_spec.specs.declared.hops.Request.{Request}
 use Rattle.circuit_spec.specs.declared.hops.TheConstants.{HOP_LIMIT}
 use Rattle.circuit_spec.specs.Network.{Topology}
 use Rattle.circuit_spec.specs.Steps.{IsOutcome, Walk, weight_of}
+use Rattle.circuit_spec.specs.Kept.{AreOverKept}
 use Rattle.machine_build.specs.Built.{BuiltValue, IsHopAt}
 use Rattle.machine_lift.specs.Lift.{AreHopsAt}
 use Rattle.answer_text.specs.Certificate.{AreFlagged}
@@ -25,11 +26,11 @@ abbrev pub IsListable : Weight → Type 0
 IsListable weight.Past = ⊥
 IsListable (weight.Known cost hops) = hops ≤ HOP_LIMIT
 
--- The hops of these steps are a walk, of which this is the capped weight, and the outcome is that of the weight.
+-- The hops of these steps are a walk over kept labels, of which this is the capped weight, and the outcome is that of the weight.
 pub record IsCheapestWalk (T : Topology) (r : Request) (b : BuiltValue) (w : Weight) (steps : List ℕ) : Type 0 where
   pub within : AllByRecursion (λ k. k < length b.machine.steps) steps
   pub weighs : machine_weight b.machine.steps steps ≡ w
-  pub walks : (hops : List Hop) → AreHopsAt T b steps hops → Walk T r hops × (weight_of T hops ≡ full_weight_of b.machine.steps steps)
+  pub walks : (hops : List Hop) → AreHopsAt T b steps hops → Walk T r hops × (weight_of T hops ≡ full_weight_of b.machine.steps steps) × AreOverKept T r hops
   pub outcome : IsOutcome T r (outcome_of w)
 
 -- the hops have the hop of one step more

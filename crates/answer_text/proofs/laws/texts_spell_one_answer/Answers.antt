@@ -1,18 +1,5 @@
-use Rattle.std.proofs.Common.{◌≡◌, ◌∙◌, ap, Result, Ok, ℕ}
-use Rattle.domain_config.specs.Lines.{text_of}
-use Rattle.domain_config.proofs.LineLaws.{text_read}
-use Rattle.answer_text.specs.declared.answer.Answer.{Answer}
-use Rattle.answer_text.specs.Document.{answer_in}
-use Rattle.answer_text.specs.Spelling.{IsWellFormed, lines_of}
-use Rattle.answer_text.specs.Reading.{Nothing, answer_step, answer_end}
-use Rattle.answer_text.proofs.AnswerLaws.{document_only, lines_whole}
+use Rattle.answer_text.proofs.OneAnswer.{spelled_once}
 use Rattle.answer_text.proofs.laws.texts_spell_one_answer.Goals as goal
 
-read_again : (a : Answer) → IsWellFormed a → answer_in (text_of (lines_of a)) ≡ Ok a
-read_again a w = text_read answer_step answer_end Nothing (lines_of a) a (lines_whole a w) (document_only a w)
-
-one_ok : (r : Result Answer ℕ) (a b : Answer) → r ≡ Ok a → r ≡ Ok b → a ≡ b
-one_ok r a b e f = cc
-
 pub returns : goal.returns
-returns c = λ a b wa wb same. one_ok (answer_in (text_of (lines_of a))) a b (read_again a wa) (ap answer_in same ∙ read_again b wb)
+returns c = spelled_once

@@ -1,0 +1,5 @@
+pub mod Documents
+pub mod Lines
+pub mod Checking
+pub mod Replaying
+pub mod Examining

@@ -1,0 +1,281 @@
+ghost use Rattle.std.specs.Prelude.{◌≡◌, ◌<◌, ◌≤◌, ◌&&◌, string_bytes, IsTrue, IfOk, length, map, nat_le, nat_lt};
+ghost use Rattle.std.specs.List.{list_all};
+ghost use Rattle.domain_config.specs.Fields.{id_of};
+ghost use Rattle.answer_text.specs.Reading.{wish_of};
+ghost use Rattle.command_words.specs.Words.{check_of, command_of, drill_of, end_of, examined_of, files_of, find_of, levels_of, replay_of, survey_of, has_bytes, HasFewLevels, NamesFewFiles};
+ghost use Rattle.command_words.specs.Spells.{Spells};
+
+use circuit_spec::Request;
+use domain_config::Refused;
+use io_edges::Name;
+use ml_base::{Id, Items, NoMemory, Wish};
+use std::alloc::Global;
+use thiserror::Error;
+
+/// Names of files, in order.
+pub type NameList = Items<Name>;
+
+/// What the words ask for.
+#[derive(Drop)]
+pub enum Command {
+    /// The cheapest circuit of the request over these topology files, shown with its potentials or without.
+    Find {
+        request: Request,
+        files: NameList,
+        potentials: bool,
+    },
+    /// Whether the document in this file holds over these topology files.
+    Check {
+        answer: Name,
+        files: NameList,
+    },
+    /// Whether its rules carry a data unit.
+    Replay {
+        answer: Name,
+        files: NameList,
+    },
+    /// The counts of these topology files.
+    Survey {
+        files: NameList,
+    },
+    /// A circuit through a network of these many levels, which is made for it.
+    Drill {
+        levels: u32,
+    },
+}
+
+/// A document, and the topology files that it is examined over.
+#[derive(Drop)]
+pub struct Examined {
+    pub answer: Name,
+    pub files: NameList,
+}
+
+/// An end of a request.
+#[derive(Drop)]
+pub struct End {
+    pub port: Id,
+    pub wish: Wish,
+}
+
+/// Why words give no command.
+#[derive(Debug, Drop, Error)]
+pub enum WordsFault {
+    /// They spell none.
+    #[error("no such command")]
+    Usage,
+    #[error("out of memory")]
+    NoMemory,
+}
+
+impl From<NoMemory> for WordsFault {
+    ghost use Rattle.command_words.specs.declared.words.WordsFault.TheVariants as faults;
+    ghost use Rattle.std.specs.Prelude.{◌≡◌};
+
+    ghost from_gives = { λ _ e. e ≡ faults.NoMemory };
+
+    fn from(_: NoMemory) -> WordsFault {
+        WordsFault::NoMemory
+    }
+}
+
+fn has_bytes(word: &String) -> bool
+    ensures { result ≡ has_bytes word.now }
+{
+    0 < word.as_bytes().len()
+}
+
+fn have_bytes(words: &[String]) -> bool
+    ensures { result ≡ list_all has_bytes words.now }
+{
+    words.iter().all(|word| has_bytes(word))
+}
+
+fn are_files(words: &[String]) -> bool
+    ensures { result ≡ nat_le 1 (length words.now) && nat_le (length words.now) 64 && list_all has_bytes words.now }
+{
+    1 <= words.len() && words.len() <= 64 && have_bytes(words)
+}
+
+fn names_of(alloc: Global, words: &[String]) -> Result<NameList, NoMemory>
+    ensures names { IfOk result (λ names. names ≡ map string_bytes words.now) }
+    ensures many { IfOk result (λ names. length names ≡ length words.now) }
+{
+    let mut names = NameList::new(alloc);
+    for word in words {
+        let name = Name::new(alloc, word.as_str())?;
+        names.push(name)?;
+    }
+    Ok(names)
+}
+
+#[tactic(auto, unfolding(crate::specs::Words::files_of))]
+fn parse_files(alloc: Global, words: &[String]) -> Result<NameList, WordsFault>
+    ensures spelled { Spells result (files_of words.now) }
+    ensures few { IfOk result (λ names. length names ≤ 64) }
+{
+    if !are_files(words) {
+        return Err(WordsFault::Usage);
+    }
+    let names = names_of(alloc, words)?;
+    Ok(names)
+}
+
+fn parse_id(alloc: Global, word: &str) -> Result<Id, WordsFault>
+    ensures { Spells result (id_of word.now) }
+{
+    match domain_config::id(alloc, word.as_bytes()) {
+        Ok(id) => Ok(id),
+        Err(Refused::Misfit) => Err(WordsFault::Usage),
+        Err(Refused::NoMemory) => Err(WordsFault::NoMemory),
+    }
+}
+
+fn parse_wish(word: &str) -> Result<Wish, WordsFault>
+    ensures { Spells result (wish_of word.now) }
+{
+    match domain_config::number(word.as_bytes(), 4_294_967_295) {
+        Some(label) => Ok(Wish::Value(label as u32)),
+        None => {
+            if word == "any" {
+                return Ok(Wish::Any);
+            }
+            Err(WordsFault::Usage)
+        }
+    }
+}
+
+#[tactic(auto, unfolding(crate::specs::Words::end_of))]
+fn parse_end(alloc: Global, port: &str, wish: &str) -> Result<End, WordsFault>
+    ensures { Spells result (end_of port.now wish.now) }
+{
+    let port = parse_id(alloc, port)?;
+    let wish = parse_wish(wish)?;
+    Ok(End { port, wish })
+}
+
+#[tactic(auto, unfolding(crate::specs::Words::find_of))]
+fn parse_find(alloc: Global, words: &[String], potentials: bool) -> Result<Command, WordsFault>
+    ensures spelled { Spells result (find_of potentials words.now) }
+    ensures few { IfOk result NamesFewFiles }
+    ensures levels { IfOk result HasFewLevels }
+{
+    let [from, from_wish, to, to_wish, names @ ..] = words else {
+        return Err(WordsFault::Usage);
+    };
+    let source = parse_end(alloc, from.as_str(), from_wish.as_str())?;
+    let target = parse_end(alloc, to.as_str(), to_wish.as_str())?;
+    let files = parse_files(alloc, names)?;
+    let request = Request {
+        from: source.port,
+        from_wish: source.wish,
+        to: target.port,
+        to_wish: target.wish,
+    };
+    Ok(Command::Find {
+        request,
+        files,
+        potentials,
+    })
+}
+
+#[tactic(auto, unfolding(crate::specs::Words::examined_of))]
+fn parse_examined(alloc: Global, words: &[String]) -> Result<Examined, WordsFault>
+    ensures spelled { Spells result (examined_of words.now) }
+    ensures few { IfOk result (λ examined. length examined.files ≤ 64) }
+{
+    let Some((answer, names)) = words.split_first() else {
+        return Err(WordsFault::Usage);
+    };
+    if !has_bytes(answer) {
+        return Err(WordsFault::Usage);
+    }
+    let files = parse_files(alloc, names)?;
+    let answer = Name::new(alloc, answer.as_str())?;
+    Ok(Examined { answer, files })
+}
+
+#[tactic(auto, unfolding(crate::specs::Words::check_of))]
+fn parse_check(alloc: Global, words: &[String]) -> Result<Command, WordsFault>
+    ensures spelled { Spells result (check_of words.now) }
+    ensures few { IfOk result NamesFewFiles }
+    ensures levels { IfOk result HasFewLevels }
+{
+    let Examined { answer, files } = parse_examined(alloc, words)?;
+    Ok(Command::Check { answer, files })
+}
+
+#[tactic(auto, unfolding(crate::specs::Words::replay_of))]
+fn parse_replay(alloc: Global, words: &[String]) -> Result<Command, WordsFault>
+    ensures spelled { Spells result (replay_of words.now) }
+    ensures few { IfOk result NamesFewFiles }
+    ensures levels { IfOk result HasFewLevels }
+{
+    let Examined { answer, files } = parse_examined(alloc, words)?;
+    Ok(Command::Replay { answer, files })
+}
+
+#[tactic(auto, unfolding(crate::specs::Words::survey_of))]
+fn parse_survey(alloc: Global, names: &[String]) -> Result<Command, WordsFault>
+    ensures spelled { Spells result (survey_of names.now) }
+    ensures few { IfOk result NamesFewFiles }
+    ensures levels { IfOk result HasFewLevels }
+{
+    let files = parse_files(alloc, names)?;
+    Ok(Command::Survey { files })
+}
+
+#[tactic(auto, unfolding(crate::specs::Words::levels_of))]
+fn parse_levels(word: &str) -> Result<u32, WordsFault>
+    ensures spelled { Spells result (levels_of word.now) }
+    ensures some { IfOk result (λ levels. 1 ≤ levels) }
+    ensures few { IfOk result (λ levels. levels ≤ 4096) }
+{
+    match domain_config::number(word.as_bytes(), 4096) {
+        Some(levels) => {
+            if levels < 1 {
+                return Err(WordsFault::Usage);
+            }
+            Ok(levels as u32)
+        }
+        None => Err(WordsFault::Usage),
+    }
+}
+
+#[tactic(auto, unfolding(crate::specs::Words::drill_of))]
+fn parse_drill(words: &[String]) -> Result<Command, WordsFault>
+    ensures spelled { Spells result (drill_of words.now) }
+    ensures few { IfOk result NamesFewFiles }
+    ensures levels { IfOk result HasFewLevels }
+{
+    let [word] = words else {
+        return Err(WordsFault::Usage);
+    };
+    let levels = parse_levels(word.as_str())?;
+    Ok(Command::Drill { levels })
+}
+
+/// The command that the words behind the program's name spell.
+///
+/// `find FROM LABEL TO LABEL FILE..`, `route` with the same words, `check ANSWER FILE..`, `replay ANSWER FILE..`, `survey FILE..` and
+/// `drill N`, where FROM and TO are ids, LABEL is `any` or a decimal below 2^32 without leading zeros, FILE stands 1 to 64 times, ANSWER
+/// and FILE are not empty, and N is such a decimal from 1 to 4096. All other words are usage.
+#[tactic(auto, unfolding(crate::specs::Words::command_of))]
+pub fn parse_words(alloc: Global, words: &[String]) -> Result<Command, WordsFault>
+    ensures spelled { Spells result (command_of words.now) }
+    ensures few { IfOk result NamesFewFiles }
+    ensures levels { IfOk result HasFewLevels }
+{
+    let Some((word, rest)) = words.split_first() else {
+        return Err(WordsFault::Usage);
+    };
+    match word.as_str() {
+        "find" => parse_find(alloc, rest, true),
+        "route" => parse_find(alloc, rest, false),
+        "check" => parse_check(alloc, rest),
+        "replay" => parse_replay(alloc, rest),
+        "survey" => parse_survey(alloc, rest),
+        "drill" => parse_drill(rest),
+        _ => Err(WordsFault::Usage),
+    }
+}

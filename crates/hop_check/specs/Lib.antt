@@ -1,0 +1,4 @@
+pub mod Deciding
+pub mod Carrying
+pub mod Arriving
+pub mod Visits

@@ -1,0 +1,6 @@
+pub mod Zipped
+pub mod Weighing
+pub mod Placing
+pub mod Ordering
+pub mod Lifting
+pub mod Telling

@@ -1,0 +1,4 @@
+pub mod Status
+pub mod Through
+pub mod Pages
+pub mod Printed

@@ -1,0 +1,10 @@
+pub mod Ending
+pub mod Counting
+pub mod Moving
+pub mod Running
+pub mod Apart
+pub mod Telling
+pub mod Numbers
+pub mod Single
+pub mod Forwarded
+pub mod Walking

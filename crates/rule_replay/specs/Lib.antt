@@ -1,0 +1,5 @@
+pub mod Replaying
+pub mod Slots
+pub mod Ends
+pub mod Carrying
+pub mod Laws

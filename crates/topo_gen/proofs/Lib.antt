@@ -1,0 +1,12 @@
+pub mod Entries
+pub mod Growing
+pub mod Each
+pub mod Rising
+pub mod Places
+pub mod Found
+pub mod Targets
+pub mod Plain
+pub mod Accepted
+pub mod Sizes
+pub mod Ports
+pub mod Walks

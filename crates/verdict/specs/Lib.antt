@@ -1,0 +1,4 @@
+pub mod First
+pub mod Rules
+pub mod Faults
+pub mod Verdicts
