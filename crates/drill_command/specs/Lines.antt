@@ -5,6 +5,8 @@ use Rattle.circuit_spec.specs.declared.hops.Outcome.{Outcome}
 use Rattle.circuit_spec.specs.declared.hops.Outcome.TheVariants.{Found, NoWalk, Past, Long}
 use Rattle.answer_text.specs.declared.answer.Answer.{Answer}
 use Rattle.answer_text.specs.Spelling.{outcome_line}
+use Rattle.rule_replay.specs.declared.replayed.Replayed.{Replayed}
+use Rattle.rule_replay.specs.declared.replayed.Replayed.TheVariants.{Carried, NotCarried}
 
 -- the words that asked
 unfoldable pub drill_line : ℕ → List ℕ
@@ -35,6 +37,11 @@ carried_line hops any_order = codes "replay carried " ++ decimal hops ++ codes "
 -- there is nothing to carry
 unfoldable pub nothing_line : List ℕ
 nothing_line = codes "replay -\n"
+
+-- what a replay tells of the rules
+abbrev pub told_line : Replayed → List ℕ
+told_line (Carried rules any_order) = carried_line rules any_order
+told_line (NotCarried at why) = nothing_line
 
 -- what the rules of an answer do
 abbrev pub replay_line : Outcome → Answer → List ℕ

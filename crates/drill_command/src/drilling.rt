@@ -5,10 +5,11 @@ ghost use Rattle.circuit_spec.specs.Faults.{IsAccepted, IsSound};
 ghost use Rattle.circuit_spec.specs.Network.{elements_of};
 ghost use Rattle.answer_text.specs.Spelling.{IsWellFormed};
 ghost use Rattle.answer_text.specs.Certificate.{Certificate};
+ghost use Rattle.answer_text.specs.Exact.{IsExactAnswer};
 ghost use Rattle.replies.specs.Status.{status_of};
 ghost use Rattle.replies.specs.Through.{IsText};
 ghost use Rattle.drill_command.specs.Drilling.{IsDrilled, IsReady, IsSolved, IsSummary};
-ghost use Rattle.drill_command.specs.Lines.{summary};
+ghost use Rattle.drill_command.specs.Lines.{replay_line, summary, told_line};
 
 use crate::lines::{
     make_drill_line, make_outcome_line, make_replay_line, make_size_line, make_valid_line,
@@ -21,6 +22,7 @@ use ml_base::NoMemory;
 use nml_elements::DomainList;
 use nml_inventory::{Inventory, merge};
 use replies::{Page, Reply, Texts, status_of};
+use rule_replay::{Replayed, replay_answer};
 use std::alloc::Global;
 use topo_gen::{Generated, generate};
 use verdict::CheckFault;
@@ -82,15 +84,32 @@ fn checked(alloc: Global, inventory: &Inventory, answer: &Answer) -> Result<(), 
 /// The answer to a request that is known, checked.
 fn answered(alloc: Global, inventory: &Inventory, request: &Request) -> Result<Answer, NoMemory>
     requires { IsReady inventory.now request.now }
-    ensures { IfOk result (IsSolved inventory.now request.now) }
+    ensures solved { IfOk result (IsSolved inventory.now request.now) }
+    ensures formed { IfOk result IsWellFormed }
 {
     let answer = solved(alloc, inventory, request)?;
     checked(alloc, inventory, &answer)?;
     Ok(answer)
 }
 
-/// The lines that tell an answer.
-fn summary_of(alloc: Global, levels: u32, answer: &Answer) -> Result<Texts, NoMemory>
+/// What a replay tells of the rules of an exact answer.
+fn replayed(alloc: Global, inventory: &Inventory, answer: &Answer) -> Result<Replayed, NoMemory>
+    requires sound { IsSound inventory.now }
+    requires formed { IsWellFormed answer.now }
+    requires exact { IsExactAnswer inventory.now answer.now }
+    ensures { IfOk result (λ told. told_line told ≡ replay_line answer.now.outcome answer.now) }
+{
+    replay_answer(alloc, inventory, answer)
+}
+
+/// The lines that tell an answer, of whose rules this is told.
+fn summary_of(
+    alloc: Global,
+    levels: u32,
+    answer: &Answer,
+    told: Replayed,
+) -> Result<Texts, NoMemory>
+    requires { told_line told ≡ replay_line answer.now.outcome answer.now }
     ensures { IfOk result (λ lines. lines ≡ summary levels answer.now) }
 {
     let mut lines = Texts::new(alloc);
@@ -98,15 +117,24 @@ fn summary_of(alloc: Global, levels: u32, answer: &Answer) -> Result<Texts, NoMe
     lines.push(make_size_line(alloc, levels)?)?;
     lines.push(make_outcome_line(alloc, answer.outcome)?)?;
     lines.push(make_valid_line(alloc)?)?;
-    lines.push(make_replay_line(alloc, answer)?)?;
+    lines.push(make_replay_line(alloc, told)?)?;
     Ok(lines)
 }
 
 /// The reply that tells an answer.
-fn told(alloc: Global, levels: u32, answer: &Answer) -> Result<Reply, NoMemory>
+fn told(
+    alloc: Global,
+    levels: u32,
+    inventory: &Inventory,
+    answer: &Answer,
+) -> Result<Reply, NoMemory>
+    requires sound { IsSound inventory.now }
+    requires formed { IsWellFormed answer.now }
+    requires exact { IsExactAnswer inventory.now answer.now }
     ensures { IfOk result (IsText (status_of answer.now.outcome) (concat (summary levels answer.now))) }
 {
-    let lines = summary_of(alloc, levels, answer)?;
+    let told = replayed(alloc, inventory, answer)?;
+    let lines = summary_of(alloc, levels, answer, told)?;
     Ok(Reply {
         status: status_of(&answer.outcome),
         text: Page::of_lines(lines),
@@ -123,7 +151,7 @@ fn drill_in(
     ensures { IfOk result (IsSummary levels inventory.now request.now) }
 {
     let answer = answered(alloc, inventory, request)?;
-    let reply = told(alloc, levels, &answer)?;
+    let reply = told(alloc, levels, inventory, &answer)?;
     Ok(reply)
 }
 
@@ -143,8 +171,8 @@ fn drill_over(
     Ok(reply)
 }
 
-/// The reply to `drill` with these many levels: the network is generated, the request through its highest level answered, and the
-/// answer checked. It has status 0, 7 or 8, as the walk is found, costs too much or is too long: by `drilled_replies_tell_the_outcome`
+/// The reply to `drill` with these many levels: the network is generated, the request through its highest level answered, the
+/// answer checked, and its rules replayed. It has status 0, 7 or 8, as the walk is found, costs too much or is too long: by `drilled_replies_tell_the_outcome`
 /// there always is one.
 ///
 /// Errors: `NoMemory` where memory ran out.

@@ -2,7 +2,7 @@
 //!
 //! The network has eight links at level 0, and each level above it is passed by way of the level below, twice. So the hops of the
 //! cheapest walk double with each level, and a few hundred elements ask more of a search than files of any size. The answer is checked
-//! against its certificate before it is told.
+//! against its certificate, and its rules are replayed, before it is told.
 #![tactic(auto)]
 
 mod drilling;

@@ -1,13 +1,13 @@
 // The lines of a summary, each made in a fixed buffer and then kept.
 ghost use Rattle.std.specs.Prelude.{◌≡◌, ◌≤◌, ◌++◌, [], ◌∷◌, IfOk, codes, decimal, length};
 ghost use Rattle.answer_text.specs.Spelling.{outcome_line};
-ghost use Rattle.drill_command.specs.Lines.{drill_line, size_line, valid_line, order_words, carried_line, nothing_line, is_unflagged, replay_line};
+ghost use Rattle.drill_command.specs.Lines.{drill_line, size_line, valid_line, order_words, carried_line, nothing_line, told_line};
 
-use answer_text::{Answer, FlagList};
 use circuit_spec::Outcome;
 use io_edges::Line;
 use ml_base::NoMemory;
 use replies::Text;
+use rule_replay::Replayed;
 use std::alloc::Global;
 
 #[tactic(auto, unfolding(crate::specs::Lines::drill_line))]
@@ -102,21 +102,12 @@ fn make_nothing_line(alloc: Global) -> Result<Text, NoMemory>
     Text::copy(alloc, b"replay -\n")
 }
 
-/// Whether no hop comes to a place that was passed before.
-fn is_unflagged(flags: &FlagList) -> bool
-    ensures { result ≡ is_unflagged flags.now }
+/// The line that tells whether the rules of an answer carry the unit.
+pub(crate) fn make_replay_line(alloc: Global, told: Replayed) -> Result<Text, NoMemory>
+    ensures { IfOk result (λ line. line ≡ told_line told) }
 {
-    flags.as_slice().iter().all(Option::is_none)
-}
-
-/// The line that tells what the rules of the answer do.
-pub(crate) fn make_replay_line(alloc: Global, answer: &Answer) -> Result<Text, NoMemory>
-    ensures { IfOk result (λ line. line ≡ replay_line answer.now.outcome answer.now) }
-{
-    match answer.outcome {
-        Outcome::Found { .. } => {
-            make_carried_line(alloc, answer.hops.len(), is_unflagged(&answer.flags))
-        }
-        Outcome::NoWalk | Outcome::Past | Outcome::Long { .. } => make_nothing_line(alloc),
+    match told {
+        Replayed::Carried { rules, any_order } => make_carried_line(alloc, rules, any_order),
+        Replayed::NotCarried { .. } => make_nothing_line(alloc),
     }
 }

@@ -24,4 +24,4 @@ pub use laws::{
     carried_rules_forward, exact_answers_are_carried, replayed_is_one, walks_are_carried,
 };
 pub use replayed::{ReplayCause, Replayed};
-pub use replaying::replay;
+pub use replaying::{replay, replay_answer};

@@ -122,8 +122,8 @@ fn told_of_asked(
     }
 }
 
-/// What is told of an answer.
-fn told_of_answer(
+/// Takes the unit of an answer's request over the answer's rules: what [`replay`] tells of its document.
+pub fn replay_answer(
     alloc: Global,
     inventory: &Inventory,
     answer: &Answer,
@@ -156,7 +156,7 @@ pub fn replay(alloc: Global, inventory: &Inventory, bytes: &[u8]) -> Result<Repl
     ensures { IfOk result (IsReplayed inventory.now bytes.now) }
 {
     match read(alloc, bytes) {
-        Ok(answer) => told_of_answer(alloc, inventory, &answer),
+        Ok(answer) => replay_answer(alloc, inventory, &answer),
         Err(TextFault::Line { .. }) => Ok(Replayed::NotCarried {
             at: 0,
             cause: ReplayCause::Text,

@@ -9,5 +9,8 @@ checked-requires-clause-formed c = c.in_ok-answer.ensures.formed
 pub checked-requires-clause-certified : goal.checked-requires-clause-certified
 checked-requires-clause-certified c = c.in_ok-answer.ensures.solved.certified
 
-pub returns : goal.returns
-returns c = c.in_ok-answer.ensures.solved
+pub returns-clause-solved : goal.returns-clause-solved
+returns-clause-solved c = c.in_ok-answer.ensures.solved
+
+pub returns-clause-formed : goal.returns-clause-formed
+returns-clause-formed c = c.in_ok-answer.ensures.formed
