@@ -10,9 +10,9 @@ use Rattle.verdict.specs.Faults.{Fails}
 
 -- the rule passes; or it is the one that is told, and it fails at the line; or memory ran out
 abbrev pub Decides : {X : Type 0} → Topology → Answer → Rule → Result X CheckFault → Type 0
-Decides T a rule (Ok x) = Passes T a rule
-Decides T a rule (Err (fault.NotValid line broken)) = (broken ≡ rule) × Fails T a rule line
-Decides T a rule (Err fault.NoMemory) = Unit {0}
+Decides T a asked (Ok x) = Passes T a asked
+Decides T a asked (Err (fault.NotValid line told)) = (told ≡ asked) × Fails T a asked line
+Decides T a asked (Err fault.NoMemory) = Unit {0}
 
 -- the port of the number is the class of the port of the id
 pub record IsClassNo (T : Topology) (id : Name) (number : ℕ) : Type 0 where
