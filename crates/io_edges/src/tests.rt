@@ -1,4 +1,4 @@
-use crate::{Failed, FileFault, Files, MemFiles, MemSink, RealFiles, Sink};
+use crate::{Blind, Failed, FileFault, Files, MemFiles, MemSink, Sink};
 use std::test::Fail;
 
 #[test]
@@ -24,6 +24,13 @@ fn failing_reads(rt: HostRuntime) -> Result<(), Fail> {
     assert_eq!(rt; files.faults(), 1);
     let bytes = files.read_file(alloc, "n", 2)?;
     assert_eq!(rt; bytes.len(), 2);
+    let mut blind = Blind::new(files);
+    let bytes = blind.read_file(alloc, "n", 2)?;
+    assert_eq!(rt; bytes.as_slice(), b"xy".as_slice());
+    assert!(rt; matches!(blind.read_file(alloc, "n", 1), Err(FileFault::TooBig)));
+    assert_eq!(rt; blind.faults(), 0);
+    assert!(rt; matches!(blind.read_file(alloc, "m", 2), Err(FileFault::Absent)));
+    assert_eq!(rt; blind.faults(), 1);
     Ok(())
 }
 
@@ -37,17 +44,8 @@ fn writes(rt: HostRuntime) -> Result<(), Fail> {
     sink.fail_call(1).expect(&rt, "memory");
     assert_eq!(rt; sink.write(b"a"), Err(Failed));
     assert_eq!(rt; sink.write(b"a"), Ok(1));
-    Ok(())
-}
-
-#[test]
-fn real_files(rt: HostRuntime) -> Result<(), Fail> {
-    let mut files = RealFiles::new(&rt);
-    assert!(rt;
-        matches!(
-            files.read_file(rt.alloc(), "no such file", 9),
-            Err(FileFault::Absent)
-        )
-    );
+    let mut sink = MemSink::chunked(rt.alloc(), 9, 2).expect(&rt, "memory");
+    assert_eq!(rt; sink.write(b"abc"), Ok(2));
+    assert_eq!(rt; sink.written(), b"ab".as_slice());
     Ok(())
 }
