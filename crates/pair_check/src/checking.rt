@@ -5,6 +5,7 @@ use crate::beginning::{are_starts_listed, check_roots};
 use crate::extending::check_extended;
 use crate::fault::PairFault;
 use crate::nesting::check_nested;
+use crate::noted::no_places;
 use crate::opening::check_opened;
 use adapt_machine::Machine;
 use ml_base::StateNo;
@@ -28,8 +29,9 @@ pub fn check_pairs(
     }
     check_roots(pots)?;
     let index = Index::new(alloc, machine)?;
-    check_extended(machine, &index, pots)?;
+    let mut places = no_places(alloc, machine.states())?;
+    check_extended(machine, &index, pots, places.as_mut_slice())?;
     check_opened(machine, &index, pots)?;
-    check_nested(alloc, machine, &index, pots)?;
+    check_nested(alloc, machine, &index, pots, places.as_mut_slice())?;
     Ok(())
 }

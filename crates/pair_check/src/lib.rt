@@ -9,7 +9,8 @@
 //! - a push, a listed pair of the root that it enters and a pop of its frame lead to one that is listed with at most the sum.
 //!
 //! Contracts see the rules as `KeepsRules` and a fault as `IsFaultOf` (`specs/Rules`). Nothing is searched for: each rule looks up what
-//! the listed pairs lead to. The exits of what is entered with a frame are found once.
+//! the listed pairs lead to. The exits of what is entered with a frame are found once, and the places of the pairs of a root are noted by
+//! state before the first of them is judged. These notes serve speed alone, and contracts do not see them.
 #![tactic(auto)]
 
 mod beginning;
@@ -20,6 +21,7 @@ mod fault;
 mod least;
 mod listing;
 mod nesting;
+mod noted;
 mod opening;
 #[cfg(test)]
 mod tests;

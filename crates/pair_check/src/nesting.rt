@@ -8,6 +8,7 @@ ghost use Rattle.pair_check.specs.Rules.{ArePairsWithin, BeginAtZero, IsExtended
 use crate::exits::{Exit, FoundExits, find_exits};
 use crate::extending::leads_on;
 use crate::fault::PairFault;
+use crate::noted::{Noted, note_root};
 use adapt_machine::Machine;
 use ml_base::{NoMemory, Root, StepNo, Weight};
 use segment_grammar::{Index, Pot, Potentials};
@@ -15,26 +16,26 @@ use std::alloc::Global;
 use std::collections::HashMap;
 
 /// Whether the pop of the exit leads on from the weight and the inner one.
-fn leads_out(machine: &Machine, pots: &Potentials, root: Root, weight: Weight, exit: Exit) -> bool
+fn leads_out(machine: &Machine, noted: &Noted, root: Root, weight: Weight, exit: Exit) -> bool
     requires { exit.pop.0 < length machine.now.steps }
-    ensures { IsTrue result ↔ LeadsOut machine.now.steps pots.now root weight exit }
+    ensures { IsTrue result ↔ LeadsOut machine.now.steps noted.now.pots.now root weight exit }
 {
-    leads_on(machine, pots, root, weight.plus(exit.inner), exit.pop)
+    leads_on(machine, noted, root, weight.plus(exit.inner), exit.pop)
 }
 
 /// Whether each of the exits leads on.
 fn all_lead_out(
     machine: &Machine,
-    pots: &Potentials,
+    noted: &Noted,
     root: Root,
     weight: Weight,
     exits: &[Exit],
 ) -> bool
     requires { All (λ exit. exit.pop.0 < length machine.now.steps) exits.now }
-    ensures { IsTrue result ↔ All (LeadsOut machine.now.steps pots.now root weight) exits.now }
+    ensures { IsTrue result ↔ All (LeadsOut machine.now.steps noted.now.pots.now root weight) exits.now }
 {
     for exit in exits {
-        if !leads_out(machine, pots, root, weight, *exit) {
+        if !leads_out(machine, noted, root, weight, *exit) {
             return false;
         }
     }
@@ -47,24 +48,24 @@ fn nests_by(
     found: &mut FoundExits,
     machine: &Machine,
     index: &Index,
-    pots: &Potentials,
+    noted: &Noted,
     pair: Pot,
     push: StepNo,
 ) -> Result<bool, NoMemory>
     requires below { push.0 < length machine.now.steps }
     requires indexed { IsIndexOf machine.now index.now }
-    requires found { AreFound machine.now.steps pots.now found.old.entries }
-    ensures found { IfOk result (λ _. AreFound machine.now.steps pots.now found.new.entries) }
-    ensures nests { IfOk result (λ yes. IsTrue yes ↔ NestsBy machine.now.steps pots.now pair push) }
+    requires found { AreFound machine.now.steps noted.now.pots.now found.old.entries }
+    ensures found { IfOk result (λ _. AreFound machine.now.steps noted.now.pots.now found.new.entries) }
+    ensures nests { IfOk result (λ yes. IsTrue yes ↔ NestsBy machine.now.steps noted.now.pots.now pair push) }
 {
     let _states = machine.states();
     let step = machine.step(push);
-    find_exits(alloc, found, index, pots, step.to, step.frame)?;
+    find_exits(alloc, found, index, noted.pots, step.to, step.frame)?;
     let Some(exits) = found.get(&(step.to.0, step.frame.0)) else {
         unreachable!()
     };
     let weight = pair.weight.plus(Weight::known(step.cost, 1));
-    Ok(all_lead_out(machine, pots, pair.root, weight, exits))
+    Ok(all_lead_out(machine, noted, pair.root, weight, exits))
 }
 
 /// Whether each push from the pair, with each exit of what it enters, leads on.
@@ -73,17 +74,17 @@ fn is_nested(
     found: &mut FoundExits,
     machine: &Machine,
     index: &Index,
-    pots: &Potentials,
+    noted: &Noted,
     pair: Pot,
 ) -> Result<bool, NoMemory>
     requires indexed { IsIndexOf machine.now index.now }
     requires within { pair.state.0 < machine.now.states }
-    requires found { AreFound machine.now.steps pots.now found.old.entries }
-    ensures found { IfOk result (λ _. AreFound machine.now.steps pots.now found.new.entries) }
-    ensures nests { IfOk result (λ yes. IsTrue yes ↔ IsNested machine.now.steps pots.now pair) }
+    requires found { AreFound machine.now.steps noted.now.pots.now found.old.entries }
+    ensures found { IfOk result (λ _. AreFound machine.now.steps noted.now.pots.now found.new.entries) }
+    ensures nests { IfOk result (λ yes. IsTrue yes ↔ IsNested machine.now.steps noted.now.pots.now pair) }
 {
     for push in index.pushes(pair.state) {
-        let nests = nests_by(alloc, found, machine, index, pots, pair, *push)?;
+        let nests = nests_by(alloc, found, machine, index, noted, pair, *push)?;
         if !nests {
             return Ok(false);
         }
@@ -97,6 +98,7 @@ pub(crate) fn check_nested(
     machine: &Machine,
     index: &Index,
     pots: &Potentials,
+    places: &mut [u64],
 ) -> Result<(), PairFault>
     requires indexed { IsIndexOf machine.now index.now }
     requires within { ArePairsWithin machine.now.states pots.now }
@@ -107,7 +109,9 @@ pub(crate) fn check_nested(
     let mut found = HashMap::new(alloc);
     let pairs = pots.as_slice();
     for place in 0..pairs.len() {
-        let nested = is_nested(alloc, &mut found, machine, index, pots, pairs[place])?;
+        note_root(places, pairs, place);
+        let noted = Noted { pots, places };
+        let nested = is_nested(alloc, &mut found, machine, index, &noted, pairs[place])?;
         if !nested {
             return Err(PairFault::Nests {
                 place: place as u64,

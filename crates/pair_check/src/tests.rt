@@ -2,6 +2,7 @@ ghost use Rattle.std.specs.Prelude.{◌≡◌, IsTrue, IfOk};
 ghost use Rattle.segment_grammar.specs.Pots.{IsAboveLast};
 ghost use Rattle.pair_check.specs.Rules.{ArePairsWithin};
 
+use crate::noted::note_root;
 use crate::{PairFault, check_pairs, least_listed};
 use adapt_machine::Machine;
 use ml_base::{FrameNo, NoMemory, Root, StateNo, Weight};
@@ -112,5 +113,25 @@ fn the_least_weight_is_found(rt: HostRuntime) -> Result<(), Fail> {
     let both = [StateNo(0), StateNo(1)];
     assert_eq!(rt; least_listed(&pots, &both), Some(Weight::known(3, 3)));
     assert_eq!(rt; least_listed(&pots, &[StateNo(2)]), None);
+    Ok(())
+}
+
+#[test]
+fn the_places_of_one_root_are_noted(rt: HostRuntime) -> Result<(), Fail> {
+    let entered = Root::Entry(StateNo(1));
+    let pairs = [
+        pot(Root::Request, 0, 0, 0),
+        pot(Root::Request, 3, 0, 0),
+        pot(entered, 1, 0, 0),
+        pot(entered, 2, 0, 0),
+    ];
+    let mut places = [9, 9, 9, 9];
+    note_root(&mut places, &pairs, 0);
+    assert_eq!(rt; places, [0, 9, 9, 1]);
+    // Not the first pair of its root: its root is noted already.
+    note_root(&mut places, &pairs, 1);
+    assert_eq!(rt; places, [0, 9, 9, 1]);
+    note_root(&mut places, &pairs, 2);
+    assert_eq!(rt; places, [0, 2, 3, 1]);
     Ok(())
 }

@@ -11,14 +11,14 @@ leads_on-requires c = All-get_or (λ (k : StepNo). k.0 < length c.args.machine.n
 
 pub loop-step-preserved : goal.loop-step-preserved
 loop-step-preserved c =
-    All-more (LeadsOn c.args.machine.now.steps c.args.pots.now c.args.pair.root c.args.pair.weight) c.args.steps.now c.loop-step.step-index _
+    All-more (LeadsOn c.args.machine.now.steps c.args.noted.now.pots.now c.args.pair.root c.args.pair.weight) c.args.steps.now c.loop-step.step-index _
     c.loop-step-test.true c.loop-step.invariant (accepted _ c.leads_on.ensures c.if-not-leads_on.false)
 
 pub returns-then-not-leads_on : goal.returns-then-not-leads_on
 returns-then-not-leads_on c =
-    one_failed (LeadsOn c.args.machine.now.steps c.args.pots.now c.args.pair.root c.args.pair.weight) c.args.steps.now c.loop-step.step-index _
+    one_failed (LeadsOn c.args.machine.now.steps c.args.noted.now.pots.now c.args.pair.root c.args.pair.weight) c.args.steps.now c.loop-step.step-index _
     c.loop-step-test.true (refuted _ c.leads_on.ensures c.if-not-leads_on.true)
 
 pub returns : goal.returns
 returns c =
-    all_passed (LeadsOn c.args.machine.now.steps c.args.pots.now c.args.pair.root c.args.pair.weight) c.args.steps.now c.loop-step.step-index (omega arith) c.loop-step.invariant
+    all_passed (LeadsOn c.args.machine.now.steps c.args.noted.now.pots.now c.args.pair.root c.args.pair.weight) c.args.steps.now c.loop-step.step-index (omega arith) c.loop-step.invariant

@@ -10,4 +10,4 @@ all_lead_on-requires c = row_below c.args.machine.now.steps (IsFlatFrom c.args.p
 
 pub returns : goal.returns
 returns c = row_tested c.args.machine.now.steps (IsFlatFrom c.args.pair.state) c.flats.result.now (c.flats.ensures c.args.machine.now c.requires.indexed)
-    (λ (t : MachineStep). IsListedWithin c.args.pots.now c.args.pair.root t.to (capped_total c.args.pair.weight (step_weight t))) c.all_lead_on.result c.all_lead_on.ensures
+    (λ (t : MachineStep). IsListedWithin c.args.noted.now.pots.now c.args.pair.root t.to (capped_total c.args.pair.weight (step_weight t))) c.all_lead_on.result c.all_lead_on.ensures

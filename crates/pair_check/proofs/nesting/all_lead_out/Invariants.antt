@@ -4,4 +4,4 @@ use Rattle.pair_check.specs.Exits.{LeadsOut}
 use Rattle.pair_check.proofs.nesting.all_lead_out.Given as goal
 
 abbrev pub invariant-loop-exit : goal.invariant-loop-exit
-invariant-loop-exit l = All (LeadsOut l.machine.steps l.pots l.root l.weight) (take l.exit-index l.exits)
+invariant-loop-exit l = All (LeadsOut l.machine.steps l.noted.pots.now l.root l.weight) (take l.exit-index l.exits)

@@ -17,19 +17,19 @@ nests_by-requires-clause-below c = All-get_or (λ (k : StepNo). k.0 < length c.a
 pub returns-then-not-nests-clause-nests : goal.returns-then-not-nests-clause-nests
 returns-then-not-nests-clause-nests c =
     row_tested c.args.machine.now.steps (IsPushFrom c.args.pair.state) c.pushes-push-items.result.now (c.pushes-push-items.ensures c.args.machine.now c.requires.indexed)
-    (IsNestedBy c.args.machine.now.steps c.args.pots.now c.args.pair) false
-    (one_failed (NestsBy c.args.machine.now.steps c.args.pots.now c.args.pair) c.pushes-push-items.result.now c.loop-push.push-index _
+    (IsNestedBy c.args.machine.now.steps c.args.noted.now.pots.now c.args.pair) false
+    (one_failed (NestsBy c.args.machine.now.steps c.args.noted.now.pots.now c.args.pair) c.pushes-push-items.result.now c.loop-push.push-index _
     c.loop-push-test.true (refuted _ c.in_ok-nests.ensures.nests c.if-not-nests.true))
 
 pub loop-push-preserved : goal.loop-push-preserved
 loop-push-preserved c = record {
   found = c.in_ok-nests.ensures.found;
-  nests = All-more (NestsBy c.args.machine.now.steps c.args.pots.now c.args.pair) c.pushes-push-items.result.now c.loop-push.push-index _
+  nests = All-more (NestsBy c.args.machine.now.steps c.args.noted.now.pots.now c.args.pair) c.pushes-push-items.result.now c.loop-push.push-index _
       c.loop-push-test.true c.loop-push.invariant.nests (accepted _ c.in_ok-nests.ensures.nests c.if-not-nests.false);
 }
 
 pub returns-clause-nests : goal.returns-clause-nests
 returns-clause-nests c =
     row_tested c.args.machine.now.steps (IsPushFrom c.args.pair.state) c.pushes-push-items.result.now (c.pushes-push-items.ensures c.args.machine.now c.requires.indexed)
-    (IsNestedBy c.args.machine.now.steps c.args.pots.now c.args.pair) true
-    (all_passed (NestsBy c.args.machine.now.steps c.args.pots.now c.args.pair) c.pushes-push-items.result.now c.loop-push.push-index (omega arith) c.loop-push.invariant.nests)
+    (IsNestedBy c.args.machine.now.steps c.args.noted.now.pots.now c.args.pair) true
+    (all_passed (NestsBy c.args.machine.now.steps c.args.noted.now.pots.now c.args.pair) c.pushes-push-items.result.now c.loop-push.push-index (omega arith) c.loop-push.invariant.nests)
