@@ -59,8 +59,9 @@ class FolderTest(unittest.TestCase):
         self.addCleanup(shutil.rmtree, self.folder, ignore_errors=True)
 
     def put(self, name: str, data: bytes) -> str:
-        """Writes a file and gives its path."""
+        """Writes a file and gives its path. One of the name is taken away first: to cut it off may wait for the disk."""
         path = self.folder / name
+        path.unlink(missing_ok=True)
         path.write_bytes(data)
         return str(path)
 

@@ -85,16 +85,34 @@ def commands_of(text: str, line: int) -> list[Command]:
 
 
 def lacks(commands: list[Command]) -> list[str]:
-    """The programs that a transcript calls and this machine lacks."""
-    first = [re.split(r"\s", part.strip())[0] for it in commands for part in re.split(r"[|;&]+", it.words)]
-    return [it for it in first if it in ("jq", "dot", "man", "zsh", "chromium", "parallel") and not shutil.which(it)]
+    """The programs that a transcript calls, by itself or by tools/draw, and this machine lacks."""
+    parts = [part.split() for it in commands for part in re.split(r"[|;&]+", it.words) if part.split()]
+    called = [part[0] for part in parts] + ["dot" for part in parts if part[0].endswith("tools/draw") and lays_out(part)]
+    return [it for it in called if it in ("jq", "dot", "man", "zsh", "chromium", "parallel") and not shutil.which(it)]
+
+
+def lays_out(words: list[str]) -> bool:
+    """Whether these words of tools/draw ask for the picture of a topology."""
+    return not {"-a", "--answer"} & set(words) or bool({"-t", "--topology"} & set(words)) or words[-1].endswith(".html")
+
+
+def copy_kept(folder: str, to: Path) -> None:
+    """Copies a folder of the checkout without what was made in it, as by commands of the pages, where git can tell."""
+    ran = subprocess.run(["git", "ls-files", "-z", folder], cwd=ROOT, capture_output=True, check=False) if shutil.which("git") else None
+    if ran is None or ran.returncode != 0 or not ran.stdout:
+        shutil.copytree(ROOT / folder, to / folder)
+        return
+    for name in map(os.fsdecode, ran.stdout.split(b"\0")[:-1]):
+        if (ROOT / name).exists():
+            (to / name).parent.mkdir(parents=True, exist_ok=True)
+            shutil.copyfile(ROOT / name, to / name)
 
 
 class PageTest(FolderTest):
     def setUp(self) -> None:
         super().setUp()
-        shutil.copytree(ROOT / "examples", self.folder / "examples")
-        shutil.copytree(ROOT / "docs", self.folder / "docs")
+        copy_kept("examples", self.folder)
+        copy_kept("docs", self.folder)
         for name in ("tools", "prebuilt"):
             os.symlink(ROOT / name, self.folder / name)
         program = finder_path()
