@@ -111,6 +111,14 @@ class LauncherTest(CheckoutTest):
         os.symlink("finder-here", self.bin / "finder")
         self.assertEqual(self.run_script("finder", "survey").stdout, "kept:survey:")
 
+    def test_it_tells_where_the_program_is(self) -> None:
+        told = self.find("survey", FINDER_PLACE="yes")
+        self.assertEqual((told.returncode, told.stdout), (0, f"{self.cache}/finder/prebuilt/{self.sources()}\n"))
+        self.assertEqual(self.run_script(told.stdout.strip(), "survey").stdout, "kept:survey:")
+        self.write("crates/low/src/lib.rt", "// changed\n")
+        told = self.find("survey", FINDER_PLACE="yes")
+        self.assertEqual((told.returncode, told.stdout), (125, ""))
+
     def test_without_a_toolchain_changed_sources_are_told_at_once(self) -> None:
         self.write("crates/low/src/lib.rt", "// changed\n")
         ran = self.find("survey")
