@@ -246,7 +246,8 @@ class TagTest(CheckoutTest):
     def test_the_first_version_is_tagged_once(self) -> None:
         ran = self.tag()
         self.assertEqual(ran.returncode, 0, ran.stderr)
-        self.assertEqual(self.git("tag", "-l", "--format=%(refname:short)\n%(contents)"), "v1.2.0\nfinder 1.2.0\n\n- New.\n\n# as it is\n\n")
+        told = self.git("tag", "-l", "--format=%(refname:short)\n%(contents)")
+        self.assertEqual(told, "v1.2.0\nfinder 1.2.0\n\n- New.\n\n# as it is\n\n")
         self.assertEqual(self.git("rev-parse", "v1.2.0^{}"), self.git("rev-parse", "HEAD"))
         self.assertIn("v1.2.0 is there already", self.tag().stderr)
 
@@ -254,8 +255,9 @@ class TagTest(CheckoutTest):
         text = (self.top / "CHANGELOG.md").read_text()
         for path, new, says, is_committed in (
                 ("CHANGELOG.md", text.replace("1.2.0", "1.2.0, not tagged yet"), "is to be a version alone", True),
-                ("CHANGELOG.md", text.replace("1.2.0", "1.02.0"), "is to be a version alone", True), ("CHANGELOG.md", "", "has no version", True),
-                ("CHANGELOG.md", text + "- More.\n", "commit or undo", False), ("crates/low/src/lib.rt", "// changed\n", "of other sources", True),
+                ("CHANGELOG.md", text.replace("1.2.0", "1.02.0"), "is to be a version alone", True),
+                ("CHANGELOG.md", "", "has no version", True), ("CHANGELOG.md", text + "- More.\n", "commit or undo", False),
+                ("crates/low/src/lib.rt", "// changed\n", "of other sources", True),
                 ("prebuilt/finder.gz", "", "is not the program", True)):
             with self.subTest(says=says, new=new):
                 old = (self.top / path).read_bytes()

@@ -358,8 +358,8 @@ class Command(FolderTest):
             ports = [{"type": "Port", "id": f"p{n:05}", "isSource": [f"l{n}"], "isSink": [f"l{(n - 1) % size}"]} for n in range(size)]
             links = [{"type": "Link", "id": f"l{n}"} for n in range(size)]
             file = json.dumps({"format": 1, "topology": "d", "elements": ports + links}).encode()
-            lines = ["circuit 1", f"request p00000 any {target} any", "outcome none", *(f"top p{n:05} - {n} {n}" for n in range(size)), "end"]
-            document = "".join(line + "\n" for line in lines).encode()
+            top = "".join(f"top p{n:05} - {n} {n}\n" for n in range(size))
+            document = f"circuit 1\nrequest p00000 any {target} any\noutcome none\n{top}end\n".encode()
             start = time.process_time()
             self.assertEqual(VERIFY.verdict(document, [file])[1], verdict)
             return time.process_time() - start
