@@ -292,6 +292,12 @@ class GateTest(CheckoutTest):
     def test_the_status_of_rt_ci_comes_first(self) -> None:
         self.assertEqual(self.gate(CI_STATUS="3"), (3, ""))
 
+    def test_without_a_toolchain_it_says_how_to_get_it(self) -> None:
+        (self.bin / "rt").unlink()
+        ran = self.run_script(self.top / ".ci" / "run")
+        self.assertEqual((ran.returncode, ran.stdout), (127, ""))
+        self.assertIn("prebuilt/build says how to get it", ran.stderr)
+
     def test_a_stale_program_is_refused(self) -> None:
         self.write("crates/low/src/lib.rt", "// changed\n")
         status, said = self.gate()

@@ -529,14 +529,18 @@ class Random(FolderTest):
     def test_damaged_files(self) -> None:
         if run_finder("survey", self.put("one.json", ONE.files()[0])).returncode == 2:
             self.skipTest("the program has no survey yet")
-        for seed in range(4 * RANDOM_NETWORKS):
-            rng = random.Random(seed)
-            domains, _ = NETWORKS.random_network(rng)
-            place = rng.randrange(len(domains))
-            files = [damaged_file(rng, domain) if number == place else json.dumps(domain).encode() for number, domain in enumerate(domains)]
-            run = run_finder("survey", *(self.put(f"{number}.json", data) for number, data in enumerate(files)))
-            due = (3, run.stdout.decode()[:-1]) if run.returncode == 3 else (9, "not-valid 1 1")
-            self.assertEqual(VERIFY.verdict(b"", files), due, f"seed {seed}")
+        with ThreadPoolExecutor() as pool:  # the program runs beside the tool
+            for seed in range(4 * RANDOM_NETWORKS):
+                rng = random.Random(seed)
+                domains, _ = NETWORKS.random_network(rng)
+                place = rng.randrange(len(domains))
+                files = [damaged_file(rng, domain) if number == place else json.dumps(domain).encode() for number, domain in enumerate(domains)]
+                names = [self.put(f"{number}.json", data) for number, data in enumerate(files)]
+                running = pool.submit(run_finder, "survey", *names)
+                told = VERIFY.verdict(b"", files)
+                run = running.result()
+                due = (3, run.stdout.decode()[:-1]) if run.returncode == 3 else (9, "not-valid 1 1")
+                self.assertEqual(told, due, f"seed {seed}")
 
 
 if __name__ == "__main__":
