@@ -254,8 +254,8 @@ class TagTest(CheckoutTest):
     def test_what_is_not_ready_is_refused(self) -> None:
         text = (self.top / "CHANGELOG.md").read_text()
         for path, new, says, is_committed in (
-                ("CHANGELOG.md", text.replace("1.2.0", "1.2.0, not tagged yet"), "is to be a version alone", True),
-                ("CHANGELOG.md", text.replace("1.2.0", "1.02.0"), "is to be a version alone", True),
+                ("CHANGELOG.md", text.replace("1.2.0", "1.2.0, not tagged yet"), "is not a version alone", True),
+                ("CHANGELOG.md", text.replace("1.2.0", "1.02.0"), "is not a version alone", True),
                 ("CHANGELOG.md", "", "has no version", True), ("CHANGELOG.md", text + "- More.\n", "commit or undo", False),
                 ("crates/low/src/lib.rt", "// changed\n", "of other sources", True),
                 ("prebuilt/finder.gz", "", "is not the program", True)):

@@ -534,7 +534,8 @@ class Random(FolderTest):
                 rng = random.Random(seed)
                 domains, _ = NETWORKS.random_network(rng)
                 place = rng.randrange(len(domains))
-                files = [damaged_file(rng, domain) if number == place else json.dumps(domain).encode() for number, domain in enumerate(domains)]
+                files = [json.dumps(domain).encode() for domain in domains]
+                files[place] = damaged_file(rng, domains[place])
                 names = [self.put(f"{number}.json", data) for number, data in enumerate(files)]
                 running = pool.submit(run_finder, "survey", *names)
                 told = VERIFY.verdict(b"", files)
