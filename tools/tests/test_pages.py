@@ -14,7 +14,7 @@ import unittest
 from dataclasses import dataclass
 from pathlib import Path
 
-from common import ROOT, FolderTest, finder_path, needs_finder
+from common import ROOT, FolderTest, finder_path, kept_files, needs_finder
 
 PAGES = sorted({*ROOT.glob("*.md"), *ROOT.glob("docs/**/*.md"), *ROOT.glob("examples/**/*.md"), *ROOT.glob("prebuilt/*.md"), *ROOT.glob("tools/**/*.md")})
 FENCE = re.compile(r"^```([^\n]*)\n(.*?)^```$", re.MULTILINE | re.DOTALL)
@@ -96,23 +96,13 @@ def lays_out(words: list[str]) -> bool:
     return not {"-a", "--answer"} & set(words) or bool({"-t", "--topology"} & set(words)) or words[-1].endswith(".html")
 
 
-def copy_kept(folder: str, to: Path) -> None:
-    """Copies a folder of the checkout without what was made in it, as by commands of the pages, where git can tell."""
-    ran = subprocess.run(["git", "ls-files", "-z", folder], cwd=ROOT, capture_output=True, check=False) if shutil.which("git") else None
-    if ran is None or ran.returncode != 0 or not ran.stdout:
-        shutil.copytree(ROOT / folder, to / folder)
-        return
-    for name in map(os.fsdecode, ran.stdout.split(b"\0")[:-1]):
-        if (ROOT / name).exists():
-            (to / name).parent.mkdir(parents=True, exist_ok=True)
-            shutil.copyfile(ROOT / name, to / name)
-
-
 class PageTest(FolderTest):
     def setUp(self) -> None:
         super().setUp()
-        copy_kept("examples", self.folder)
-        copy_kept("docs", self.folder)
+        for path in [*kept_files("examples"), *kept_files("docs")]:
+            to = self.folder / path.relative_to(ROOT)
+            to.parent.mkdir(parents=True, exist_ok=True)
+            shutil.copyfile(path, to)
         for name in ("tools", "prebuilt"):
             os.symlink(ROOT / name, self.folder / name)
         program = finder_path()
