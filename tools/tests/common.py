@@ -41,6 +41,14 @@ def browser_path() -> str | None:
 needs_browser = unittest.skipUnless(browser_path(), "no Chromium is there")
 
 
+def kept_files(folder: str) -> list[Path]:
+    """The files of a folder of the checkout, without those that were made in it, as by commands of the pages, where git can tell."""
+    ran = subprocess.run(["git", "ls-files", "-z", folder], cwd=ROOT, capture_output=True, check=False) if shutil.which("git") else None
+    names = ran.stdout.split(b"\0")[:-1] if ran and ran.returncode == 0 else []
+    paths = [ROOT / os.fsdecode(name) for name in names] or sorted((ROOT / folder).rglob("*"))
+    return [path for path in paths if path.is_file()]
+
+
 def run_tool(name: str, *words: str, data: bytes = b"", folder: Path | None = None) -> subprocess.CompletedProcess[bytes]:
     """Runs a tool with words, and bytes for its standard input."""
     return subprocess.run([sys.executable, str(TOOLS / name), *words], input=data, capture_output=True, cwd=folder, check=False)
@@ -59,8 +67,9 @@ class FolderTest(unittest.TestCase):
         self.addCleanup(shutil.rmtree, self.folder, ignore_errors=True)
 
     def put(self, name: str, data: bytes) -> str:
-        """Writes a file and gives its path."""
+        """Writes a file and gives its path. One of the name is taken away first: to cut it off may wait for the disk."""
         path = self.folder / name
+        path.unlink(missing_ok=True)
         path.write_bytes(data)
         return str(path)
 

@@ -74,6 +74,19 @@ class Batches(BatchTest):
         self.assertEqual(self.batch("--route", "--documents", "routes", self.requests, self.file).returncode, 0)
         self.assertNotIn(b"top p", (self.folder / "routes" / "21").read_bytes())
 
+    def test_the_program_of_a_launcher(self) -> None:
+        """What leads to the launcher of a checkout is asked once where the program is."""
+        checkout = self.folder / "checkout"
+        (checkout / "prebuilt").mkdir(parents=True)
+        (checkout / "prebuilt" / "sources").touch()
+        (checkout / "finder").write_text(f"#!/bin/sh\necho asked >>{self.folder}/runs\n[ -n \"$FINDER_PLACE\" ] && echo {finder_path()}\n")
+        (checkout / "finder").chmod(0o755)
+        (self.folder / "linked").symlink_to(checkout / "finder")
+        run = self.batch("--finder", "linked", self.requests, self.file)
+        self.assertEqual((run.returncode, run.stdout, self.runs()), (0, self.batch(self.requests, self.file).stdout, 1))
+        (checkout / "finder").write_text("#!/bin/sh\nexit 125\n")
+        self.assertEqual(self.batch("--finder", "linked", self.requests, self.file).returncode, 2)
+
     def test_bad_input(self) -> None:
         broken = self.put("broken.json", b"[")
         for requests, words in [(b"p any q\n", [self.file]), (b"p any q any\np 07 q any\n", [self.file]), (b"p  any q any\n", [self.file]),

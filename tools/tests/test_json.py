@@ -126,8 +126,8 @@ class AgainstFinder(FolderTest):
                       "find q any c2 any t.json", "survey gone.json", "survey .", "find", ""):
             with self.subTest(words):
                 printed = common.run_finder(*words.split(), folder=self.folder).stdout
-                there = run_tool("json", data=printed)
-                self.assertEqual(run_tool("json", "--back", data=there.stdout).stdout, printed)
+                there = "\n".join(json_lines(read_text(printed))).encode()
+                self.assertEqual(write_text(from_json(there)), printed)
 
 
 @unittest.skipUnless(shutil.which("jq"), "jq is not there")

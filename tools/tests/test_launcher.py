@@ -5,11 +5,12 @@ import os
 import shutil
 import subprocess
 import sys
+import unittest
 from pathlib import Path
 
 from common import ROOT, FolderTest
 
-SCRIPTS = ("finder", "prebuilt/sources", "prebuilt/build", "prebuilt/refresh", ".ci/run")
+SCRIPTS = ("finder", "prebuilt/sources", "prebuilt/build", "prebuilt/refresh", "prebuilt/tag", ".ci/run")
 CRATES = "low:\nother: low\nmid: low thiserror\nfinder: mid\n"
 # A program that shows its words, and ends with a status of its own; without words that is 2.
 PROGRAM = b'#!/bin/sh\n[ $# = 0 ] && exit 2\nprintf "%s:" kept "$@"\nexit 7\n'
@@ -110,6 +111,14 @@ class LauncherTest(CheckoutTest):
         os.symlink(self.top / "finder", self.bin / "finder-here")
         os.symlink("finder-here", self.bin / "finder")
         self.assertEqual(self.run_script("finder", "survey").stdout, "kept:survey:")
+
+    def test_it_tells_where_the_program_is(self) -> None:
+        told = self.find("survey", FINDER_PLACE="yes")
+        self.assertEqual((told.returncode, told.stdout), (0, f"{self.cache}/finder/prebuilt/{self.sources()}\n"))
+        self.assertEqual(self.run_script(told.stdout.strip(), "survey").stdout, "kept:survey:")
+        self.write("crates/low/src/lib.rt", "// changed\n")
+        told = self.find("survey", FINDER_PLACE="yes")
+        self.assertEqual((told.returncode, told.stdout), (125, ""))
 
     def test_without_a_toolchain_changed_sources_are_told_at_once(self) -> None:
         self.write("crates/low/src/lib.rt", "// changed\n")
@@ -216,6 +225,52 @@ class RefreshTest(CheckoutTest):
         self.assertEqual(self.find("survey").stdout, "kept:survey:")
 
 
+@unittest.skipUnless(shutil.which("git"), "git is not there")
+class TagTest(CheckoutTest):
+    def setUp(self) -> None:
+        super().setUp()
+        self.write("CHANGELOG.md", "# Changes\n\n## 1.2.0\n\n- New.\n\n# as it is\n\n## 1.1.9\n\n- Old.\n")
+        self.git("init", "-q")
+        self.commit()
+
+    def git(self, *words: str) -> str:
+        return self.run_script("git", "-C", self.top, "-c", "user.name=A", "-c", "user.email=a@b", *words).stdout
+
+    def commit(self) -> None:
+        self.git("add", ".")
+        self.git("commit", "-q", "-m", "One")
+
+    def tag(self) -> subprocess.CompletedProcess[str]:
+        return self.run_script(self.top / "prebuilt" / "tag", GIT_COMMITTER_NAME="A", GIT_COMMITTER_EMAIL="a@b")
+
+    def test_the_first_version_is_tagged_once(self) -> None:
+        ran = self.tag()
+        self.assertEqual(ran.returncode, 0, ran.stderr)
+        told = self.git("tag", "-l", "--format=%(refname:short)\n%(contents)")
+        self.assertEqual(told, "v1.2.0\nfinder 1.2.0\n\n- New.\n\n# as it is\n\n")
+        self.assertEqual(self.git("rev-parse", "v1.2.0^{}"), self.git("rev-parse", "HEAD"))
+        self.assertIn("v1.2.0 is there already", self.tag().stderr)
+
+    def test_what_is_not_ready_is_refused(self) -> None:
+        text = (self.top / "CHANGELOG.md").read_text()
+        for path, new, says, is_committed in (
+                ("CHANGELOG.md", text.replace("1.2.0", "1.2.0, not tagged yet"), "is not a version alone", True),
+                ("CHANGELOG.md", text.replace("1.2.0", "1.02.0"), "is not a version alone", True),
+                ("CHANGELOG.md", "", "has no version", True), ("CHANGELOG.md", text + "- More.\n", "commit or undo", False),
+                ("crates/low/src/lib.rt", "// changed\n", "of other sources", True),
+                ("prebuilt/finder.gz", "", "is not the program", True)):
+            with self.subTest(says=says, new=new):
+                old = (self.top / path).read_bytes()
+                self.write(path, new)
+                if is_committed:
+                    self.commit()
+                ran = self.tag()
+                self.assertEqual((ran.returncode, self.git("tag")), (1, ""))
+                self.assertIn(says, ran.stderr)
+                (self.top / path).write_bytes(old)
+                self.commit()
+
+
 class GateTest(CheckoutTest):
     def setUp(self) -> None:
         super().setUp()
@@ -236,6 +291,12 @@ class GateTest(CheckoutTest):
 
     def test_the_status_of_rt_ci_comes_first(self) -> None:
         self.assertEqual(self.gate(CI_STATUS="3"), (3, ""))
+
+    def test_without_a_toolchain_it_says_how_to_get_it(self) -> None:
+        (self.bin / "rt").unlink()
+        ran = self.run_script(self.top / ".ci" / "run")
+        self.assertEqual((ran.returncode, ran.stdout), (127, ""))
+        self.assertIn("prebuilt/build says how to get it", ran.stderr)
 
     def test_a_stale_program_is_refused(self) -> None:
         self.write("crates/low/src/lib.rt", "// changed\n")

@@ -4,7 +4,7 @@ import random
 import time
 import unittest
 
-from common import ROOT, FolderTest, run_tool, topology
+from common import FolderTest, kept_files, run_tool, topology
 from test_verify import NETWORKS
 
 from finderlib.nml import NAMESPACE, NmlFault, from_nml, to_nml
@@ -158,9 +158,10 @@ class ThereAndBack(FolderTest):
                 self.assertTrue(run.stderr)
 
     def test_examples(self) -> None:
-        for path in sorted((ROOT / "examples").glob("*.json")):
-            run = run_tool("from-nml", "--back", str(path))
-            self.assertEqual(run_tool("from-nml", "-", data=run.stdout).returncode, 0, path)
+        """All but what NML cannot say comes back; test_command runs the tool itself."""
+        for path in (it for it in kept_files("examples") if it.suffix == ".json"):
+            again, left_out = from_nml(to_nml(read_domain(path.read_bytes()))[0])
+            self.assertEqual((again, left_out), (sayable(read_domain(path.read_bytes())), []), path)
 
 
 def sayable(domain: Domain) -> Domain:

@@ -14,7 +14,7 @@ import unittest
 from dataclasses import dataclass
 from pathlib import Path
 
-from common import ROOT, FolderTest, finder_path, needs_finder
+from common import ROOT, FolderTest, finder_path, kept_files, needs_finder
 
 PAGES = sorted({*ROOT.glob("*.md"), *ROOT.glob("docs/**/*.md"), *ROOT.glob("examples/**/*.md"), *ROOT.glob("prebuilt/*.md"), *ROOT.glob("tools/**/*.md")})
 FENCE = re.compile(r"^```([^\n]*)\n(.*?)^```$", re.MULTILINE | re.DOTALL)
@@ -85,16 +85,24 @@ def commands_of(text: str, line: int) -> list[Command]:
 
 
 def lacks(commands: list[Command]) -> list[str]:
-    """The programs that a transcript calls and this machine lacks."""
-    first = [re.split(r"\s", part.strip())[0] for it in commands for part in re.split(r"[|;&]+", it.words)]
-    return [it for it in first if it in ("jq", "dot", "man", "zsh", "chromium", "parallel") and not shutil.which(it)]
+    """The programs that a transcript calls, by itself or by tools/draw, and this machine lacks."""
+    parts = [part.split() for it in commands for part in re.split(r"[|;&]+", it.words) if part.split()]
+    called = [part[0] for part in parts] + ["dot" for part in parts if part[0].endswith("tools/draw") and lays_out(part)]
+    return [it for it in called if it in ("jq", "dot", "man", "zsh", "chromium", "parallel") and not shutil.which(it)]
+
+
+def lays_out(words: list[str]) -> bool:
+    """Whether these words of tools/draw ask for the picture of a topology."""
+    return not {"-a", "--answer"} & set(words) or bool({"-t", "--topology"} & set(words)) or words[-1].endswith(".html")
 
 
 class PageTest(FolderTest):
     def setUp(self) -> None:
         super().setUp()
-        shutil.copytree(ROOT / "examples", self.folder / "examples")
-        shutil.copytree(ROOT / "docs", self.folder / "docs")
+        for path in [*kept_files("examples"), *kept_files("docs")]:
+            to = self.folder / path.relative_to(ROOT)
+            to.parent.mkdir(parents=True, exist_ok=True)
+            shutil.copyfile(path, to)
         for name in ("tools", "prebuilt"):
             os.symlink(ROOT / name, self.folder / name)
         program = finder_path()

@@ -3,7 +3,10 @@ import importlib.util
 import json
 import random
 import re
+import threading
+import time
 import unittest
+from concurrent.futures import ThreadPoolExecutor
 from dataclasses import dataclass
 from importlib.machinery import SourceFileLoader
 from pathlib import Path
@@ -350,15 +353,18 @@ class Command(FolderTest):
             self.assertEqual(VERIFY.verdict(b"", [data])[0], 3)
 
     def test_long_documents_take_linear_time(self) -> None:
-        """A ring of 20,000 ports: each has one potential."""
-        size = 20_000
-        ports = [{"type": "Port", "id": f"p{n:05}", "isSource": [f"l{n}"], "isSink": [f"l{(n - 1) % size}"]} for n in range(size)]
-        links = [{"type": "Link", "id": f"l{n}"} for n in range(size)]
-        file = json.dumps({"format": 1, "topology": "d", "elements": ports + links}).encode()
-        lines = ["circuit 1", "request p00000 any gone any", "outcome none", *(f"top p{n:05} - {n} {n}" for n in range(size)), "end"]
-        for target, verdict in [("gone", "not-valid 2 2"), ("p00009", "not-valid 3 13")]:
-            document = "".join(line + "\n" for line in lines).replace("gone", target).encode()
+        """Rings of ports: each has one potential."""
+        def seconds(size: int, target: str, verdict: str) -> float:
+            ports = [{"type": "Port", "id": f"p{n:05}", "isSource": [f"l{n}"], "isSink": [f"l{(n - 1) % size}"]} for n in range(size)]
+            links = [{"type": "Link", "id": f"l{n}"} for n in range(size)]
+            file = json.dumps({"format": 1, "topology": "d", "elements": ports + links}).encode()
+            top = "".join(f"top p{n:05} - {n} {n}\n" for n in range(size))
+            document = f"circuit 1\nrequest p00000 any {target} any\noutcome none\n{top}end\n".encode()
+            start = time.process_time()
             self.assertEqual(VERIFY.verdict(document, [file])[1], verdict)
+            return time.process_time() - start
+        self.assertLess(seconds(8_000, "p00009", "not-valid 3 13"), 12 * seconds(2_000, "p00009", "not-valid 3 13") + 1)
+        seconds(2_000, "gone", "not-valid 2 2")
 
 
 # ---- random networks
@@ -505,30 +511,37 @@ class Random(FolderTest):
         for shown, case, edits, verdict in ROWS:
             document = edited(case.document, edits)
             self.assertEqual(self.judge(document, [self.put("row.json", case.files()[0])])[1], verdict, shown)
-        for seed in range(RANDOM_NETWORKS):
-            rng, domains, words = self.random_network(seed)
-            text = run_finder("find", *words).stdout.decode()
-            files = [json.dumps(domain).encode() for domain in domains]
-            for turn in range(DAMAGES_OF_EACH):
-                document = Damage(rng, text).document()
-                self.assertEqual(VERIFY.verdict(document, files), self.judge(document, words[4:]), f"seed {seed}, {turn}:\n{document}")
+        with ThreadPoolExecutor() as pool:  # the program runs beside the tool
+            for seed in range(RANDOM_NETWORKS):
+                rng, domains, words = self.random_network(seed)
+                text = run_finder("find", *words).stdout.decode()
+                files = [json.dumps(domain).encode() for domain in domains]
+                documents = [Damage(rng, text).document() for _ in range(DAMAGES_OF_EACH)]
+                judged = pool.map(self.judge, documents, [words[4:]] * len(documents))
+                for turn, (document, due) in enumerate(zip(documents, judged, strict=True)):
+                    self.assertEqual(VERIFY.verdict(document, files), due, f"seed {seed}, {turn}:\n{document}")
 
     def judge(self, document: bytes, names: list[str]) -> tuple[int, str]:
         """The status and the line of the program."""
-        run = run_finder("check", self.put("document", document), *names)
+        run = run_finder("check", self.put(f"document-{threading.get_ident()}", document), *names)
         return run.returncode, run.stdout.decode().removesuffix("\n")
 
     def test_damaged_files(self) -> None:
         if run_finder("survey", self.put("one.json", ONE.files()[0])).returncode == 2:
             self.skipTest("the program has no survey yet")
-        for seed in range(4 * RANDOM_NETWORKS):
-            rng = random.Random(seed)
-            domains, _ = NETWORKS.random_network(rng)
-            place = rng.randrange(len(domains))
-            files = [damaged_file(rng, domain) if number == place else json.dumps(domain).encode() for number, domain in enumerate(domains)]
-            run = run_finder("survey", *(self.put(f"{number}.json", data) for number, data in enumerate(files)))
-            due = (3, run.stdout.decode()[:-1]) if run.returncode == 3 else (9, "not-valid 1 1")
-            self.assertEqual(VERIFY.verdict(b"", files), due, f"seed {seed}")
+        with ThreadPoolExecutor() as pool:  # the program runs beside the tool
+            for seed in range(4 * RANDOM_NETWORKS):
+                rng = random.Random(seed)
+                domains, _ = NETWORKS.random_network(rng)
+                place = rng.randrange(len(domains))
+                files = [json.dumps(domain).encode() for domain in domains]
+                files[place] = damaged_file(rng, domains[place])
+                names = [self.put(f"{number}.json", data) for number, data in enumerate(files)]
+                running = pool.submit(run_finder, "survey", *names)
+                told = VERIFY.verdict(b"", files)
+                run = running.result()
+                due = (3, run.stdout.decode()[:-1]) if run.returncode == 3 else (9, "not-valid 1 1")
+                self.assertEqual(told, due, f"seed {seed}")
 
 
 if __name__ == "__main__":

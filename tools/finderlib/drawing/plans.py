@@ -59,7 +59,7 @@ def has_dot() -> bool:
 def plan(sizes: list[tuple[float, float]], groups: list[Group], ways: list[Way]) -> Plan:
     """Lays boxes of these sizes out; each box is in one group at most."""
     if not has_dot():
-        raise ToolFault("Graphviz's `dot` is not there, which lays topologies out")
+        raise ToolFault("Graphviz's `dot` is not there, which lays topologies out (Debian: apt-get install graphviz)")
     text = "\n".join(_dot_lines(sizes, groups, ways))
     try:
         ended = subprocess.run(["dot", "-Tjson0"], input=text.encode("ascii"), capture_output=True, timeout=SECONDS_MOST, check=True)
