@@ -290,8 +290,29 @@ def links_without_labels(count):
 def crossing_sets(count):
     """sets of ranges that cross at random"""
     rng = random.Random(1)
-    texts = [",".join(f"{low}-{low + 2_000_000}" for low in (rng.randrange(2**31) for _ in range(count))) for _ in range(20)]
+    texts = [",".join(f"{low}-{low + 2**29 // count}" for low in (rng.randrange(2**31) for _ in range(count))) for _ in range(20)]
     return found([*ends(), *(group(f"p{number}", text) for number, text in enumerate(texts))])
+
+
+@family("find", "label types", 40_000, 80_000, 160_000)
+def many_label_types(count):
+    """ports with a label type each"""
+    return found([*ends(), *(port(f"p{n}", hasLabel={"labeltype": f"t{n}", "value": n}) for n in range(count))])
+
+
+@family("find", "functions", 10_000, 20_000, 40_000)
+def many_functions(count):
+    """services of a function each, at one port"""
+    into = [adaptation(f"a{n}", ["from"], function=f"F{n}") for n in range(count)]
+    out = [deadaptation(f"u{n}", ["to"], function=f"F{n}") for n in range(count)]
+    return found([*ends(), port("s", hasService=names("a", count)), *into, *out])
+
+
+@family("find", "links", 10_000, 20_000, 40_000)
+def links_of_no_cost(count):
+    """a ring of links that cost nothing"""
+    ports = [port(f"p{n}", isSource=[f"l{n}"], isSink=[f"l{(n - 1) % count}"]) for n in range(count)]
+    return found([*ports, *(link(name, cost=0) for name in names("l", count))], "p0 any", f"p{count - 1} any")
 
 
 @family("find", "links", 10_000, 20_000, 40_000)
@@ -378,7 +399,7 @@ def search_of_equal_hashes(count):
 
 # ---- documents
 
-@family("check", "potentials of places that are not there", 150_000, 300_000, 600_000)
+@family("check", "potentials of places that are not there", 250_000, 500_000, 1_000_000)
 def many_potentials(count):
     """a document of many potentials over a small network"""
     return judged([f"top p{number:07} - 0 0" for number in range(count)], ends())
@@ -393,7 +414,7 @@ def many_hops(count):
                   "a any a any", f"found {count} {count}")
 
 
-@family("check", "clients before and behind one server port", 4_000, 8_000, 16_000)
+@family("check", "clients before and behind one server port", 2_000, 4_000, 8_000)
 def checked_nests(count):
     """ways into one layer and out of it, all listed"""
     before, behind = names("p", count), names("q", count)
@@ -527,7 +548,7 @@ def row(program, given, bounds):
 
 
 def cells(command, shown, grows, total, powers, seconds, memory):
-    return f"| {' | '.join([f'`{command}`', shown, grows, f'{total / 1e6:.1f} MB', *powers, seconds, f'{memory / 1e6:,.0f} MB'])} |"
+    return f"| {' | '.join([f'`{command}`', shown, grows, f'{total / 1e6:.2f} MB', *powers, seconds, f'{memory / 1e6:,.0f} MB'])} |"
 
 
 def main():
