@@ -294,6 +294,27 @@ def crossing_sets(count):
     return found([*ends(), *(group(f"p{number}", text) for number, text in enumerate(texts))])
 
 
+@family("find", "label types", 40_000, 80_000, 160_000)
+def many_label_types(count):
+    """ports with a label type each"""
+    return found([*ends(), *(port(f"p{n}", hasLabel={"labeltype": f"t{n}", "value": n}) for n in range(count))])
+
+
+@family("find", "functions", 10_000, 20_000, 40_000)
+def many_functions(count):
+    """services of a function each, at one port"""
+    into = [adaptation(f"a{n}", ["from"], function=f"F{n}") for n in range(count)]
+    out = [deadaptation(f"u{n}", ["to"], function=f"F{n}") for n in range(count)]
+    return found([*ends(), port("s", hasService=names("a", count)), *into, *out])
+
+
+@family("find", "links", 10_000, 20_000, 40_000)
+def links_of_no_cost(count):
+    """a ring of links that cost nothing"""
+    ports = [port(f"p{n}", isSource=[f"l{n}"], isSink=[f"l{(n - 1) % count}"]) for n in range(count)]
+    return found([*ports, *(link(name, cost=0) for name in names("l", count))], "p0 any", f"p{count - 1} any")
+
+
 @family("find", "links", 10_000, 20_000, 40_000)
 def sets_in_sets(count):
     """links whose sets of labels lie in one another"""
