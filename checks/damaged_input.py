@@ -1,7 +1,7 @@
 #!/usr/bin/env python3
 """Sends damaged files, documents and words to `finder`, and compares what it says with a plain reading of docs/FORMATS.md.
 
-    python3 checks/damaged_input.py PROGRAM [--seconds N] [--seed N] [--count N]
+    python3 checks/damaged_input.py PROGRAM [--seconds N] [--seed N] [--count N] [--fixed]
 
 An input is a small random network whose files are cut, doubled or flipped in a bit, have ids renamed across files, numbers at their limits,
 surrogates and other escapes in texts, nesting at 126 to 128, members repeated, bytes that are no UTF-8, or are empty, gone, folders or too
@@ -9,6 +9,9 @@ big; or a document over it that is damaged in such ways; or words out of form. I
 
 The plain reading takes files, their faults and the verdict on a document from tools/verify, a checker that was written from FORMATS.md. It
 adds here the words, reading, the faults of a request, counts, replay, and the least weights over kept labels (random_networks.py).
+
+With `--fixed` it first sends files that no dice make: each number, text and depth at the limits, in each place where one may stand, and
+each member of each type with each of some values.
 
 Each input has a seed, from the first on. A difference is printed with its seed and what is due, and the exit status is 1. `--seed N
 --count 1` makes that one input again. Without `--seed` the first seed is drawn from the clock, and printed.
@@ -301,7 +304,7 @@ class Damage:
         way = self.rng.choice([
             self.cut, self.doubled, self.flipped, self.flipped, self.emptied, self.renamed, self.renamed, self.renamed, self.numbered,
             self.numbered, self.labelled, self.labelled, self.escaped, self.escaped, self.nested, self.repeated, self.repeated,
-            self.revalued, self.revalued, self.revalued, self.framed, self.spelled, self.same])
+            self.revalued, self.revalued, self.revalued, self.framed, self.spelled, self.same, self.retuned, self.retuned, self.retuned])
         self.files[at] = way(self.files[at])
 
     def place(self, data):
@@ -392,6 +395,11 @@ class Damage:
         except (ValueError, TypeError, LookupError, RecursionError):
             return data
 
+    def retuned(self, data):
+        """An encoding or a label type becomes another, once."""
+        return self.replaced(re.compile(rb'"(?:eth|otn|vlan|lambda|F|G)"'), data, lambda _: self.rng.choice(
+            [b'"eth"', b'"otn"', b'"none"', b'"vlan"', b'"lambda"', b'"F"', b'"G"']))
+
     def framed(self, data):
         frames = [b"", b" \n\t\r", b"\xef\xbb\xbf", b"\x0c", b"\x00", b",", b"{}", b"[", b"]", b"//"]
         return self.rng.choice(frames) + data + self.rng.choice(frames)
@@ -403,30 +411,94 @@ class Damage:
 def damaged_document(rng, data):
     """A document that is cut, doubled, flipped, or changed by lines and words."""
     for _ in range(rng.choice([1, 1, 1, 2, 3])):
-        lines, way = data.split(b"\n"), rng.randrange(10)
-        at, other = rng.randrange(len(lines)), rng.randrange(len(lines))
-        words = lines[at].split(b" ")
-        if way == 0:
-            data = data[:rng.randint(0, len(data))]
-        elif way == 1 and data:
-            changed = bytearray(data)
-            changed[rng.randrange(len(data))] ^= 1 << rng.randrange(8)
-            data = bytes(changed)
-        elif way == 2:
-            data = rng.choice([data + data, b"", data + b"\n", data[:-1], data.replace(b"\n", b"\r\n"), b"\n" + data, data + b"end\n"])
-        elif way == 3:
-            data = b"\n".join(lines[:at] + lines[at + 1:])
-        elif way == 4:
-            data = b"\n".join(lines[:at] + [lines[other]] + lines[at:])
-        elif way == 5:
-            lines[at], lines[other] = lines[other], lines[at]
-            data = b"\n".join(lines)
-        else:
-            words[rng.randrange(len(words))] = rng.choice([
-                rng.choice(NUMBERS).encode(), rng.choice([b"any", b"-", b"past", b"none", b"again", b"\xff", b"", b"i" * 256]),
-                rng.choice(rng.choice(lines).split(b" "))])
-            data = b"\n".join(lines[:at] + [b" ".join(words)] + lines[at + 1:])
+        data = rng.choice([damaged_bytes, damaged_lines, damaged_word, damaged_number, damaged_number, damaged_number])(rng, data)
     return data
+
+
+def damaged_bytes(rng, data):
+    changed = bytearray(data)
+    if data:
+        changed[rng.randrange(len(data))] ^= 1 << rng.randrange(8)
+    return rng.choice([
+        data[:rng.randint(0, len(data))], bytes(changed), bytes(changed), data + data, b"", data + b"\n", data[:-1],
+        data.replace(b"\n", b"\r\n"), b"\n" + data, data + b"end\n"])
+
+
+def damaged_lines(rng, data):
+    """A line less, one more, or two that change places."""
+    lines = data.split(b"\n")
+    at, other = rng.randrange(len(lines)), rng.randrange(len(lines))
+    swapped = list(lines)
+    swapped[at], swapped[other] = lines[other], lines[at]
+    return b"\n".join(rng.choice([lines[:at] + lines[at + 1:], lines[:at] + [lines[other]] + lines[at:], swapped]))
+
+
+def damaged_word(rng, data):
+    """A word becomes another of the document, or one at the limits."""
+    lines = data.split(b"\n")
+    at = rng.randrange(len(lines))
+    words = lines[at].split(b" ")
+    words[rng.randrange(len(words))] = rng.choice([
+        rng.choice(NUMBERS).encode(), rng.choice([b"any", b"-", b"past", b"none", b"again", b"\xff", b"", b"i" * 256]),
+        rng.choice(rng.choice(lines).split(b" ")), rng.choice(rng.choice(lines).split(b" "))])
+    return b"\n".join(lines[:at] + [b" ".join(words)] + lines[at + 1:])
+
+
+def damaged_number(rng, data):
+    """A number, as of a weight or a label, is one more or one less."""
+    found = list(re.finditer(rb"(?<= )[0-9]+(?=[ \n])", data))
+    if not found:
+        return data
+    match = rng.choice(found)
+    return data[:match.start()] + b"%d" % abs(int(match.group()) + rng.choice([-1, 1])) + data[match.end():]
+
+
+# ---- inputs that no dice make
+
+FLOATS = [
+    "1e308", "10e307", "0.1e309", "0.18e309", "1.8e308", "2e308", "-1.8e308", "1.7976931348623158e308", "1.797693134862315807e308",
+    "1.797693134862315808e308", "17976931348623157081e289", "1797693134862315708145e287", "0.00017976931348623157e312", "1e+308", "1e+309",
+    "1e0000000308", "1e-0000400", "1" + "0" * 308 + ".0", "9" * 308, "9" * 309,
+    "17976931348623157" + "0" * 292, "17976931348623159" + "0" * 292]
+
+
+def bare(more="", behind="", kind="Link", name="l"):
+    """The bytes of a file with one element, and what more stands in it and behind it."""
+    text = '{"format":1,"topology":"d","elements":[{"type":"%s","id":"%s"%s}]%s}' % (kind, name, more, behind)
+    return text.encode("utf-8", "surrogateescape")
+
+
+def fixed_files():
+    """Each value at the limits, in each place where one may stand."""
+    for number in NUMBERS + FLOATS:
+        yield from (bare(more % number) for more in (',"x":[%s]', ',"cost":%s', ',"hasLabel":{"labeltype":"v","value":%s}'))
+        yield bare(behind=f',"x":{number}')
+        yield bare().replace(b'"format":1', b'"format":' + number.encode())
+    for escape in (it.decode("utf-8", "surrogateescape") for it in ESCAPES):
+        yield from (bare(more % escape) for more in (',"x":"%s"', ',"%s":1', ',"hasLabel":{"labeltype":"%s","value":1}'))
+        yield from (bare(kind=f"Link{escape}"), bare(name=f"l{escape}"), bare(f',"id{escape}":"m"'))
+    for text in LABEL_TEXTS + ["1-4294967295,0", "4294967295,", "1-4294967295-", "0,0,0", "1-1-", "-", ",", "1,-", "1-,2", "1-5,6-7,"]:
+        yield bare(',"hasLabelGroup":{"labeltype":"v","values":%s}' % json.dumps(text), kind="LinkGroup")
+    for depth in range(120, 131):
+        for value in ("[" * depth + "]" * depth, '{"a":' * depth + "1" + "}" * depth):
+            yield from (value.encode(), bare(f',"x":{value}'), bare(behind=f',"x":{value}'))
+    for kind, members in VERIFY.MEMBERS.items():
+        due = ',"adaptationFunction":"f"' if "adaptationFunction" in members else ""
+        yield from (bare(f'{due},"{member}":{json.dumps(value)}', kind=kind) for member in ("type", "id", *members) for value in VALUES)
+    for member in ("format", "topology", "encoding", "elements"):
+        yield from (bare(behind=f',"{member}":{json.dumps(value)}') for value in VALUES)
+
+
+def compare_fixed(sender):
+    """The number of files that no dice make, and what is not as it is due."""
+    number, wrong = 0, []
+    for number, data in enumerate(fixed_files(), 1):
+        sender.store({"file": data})
+        status, printed = sender.run(["survey", "file"])
+        due = difference(["survey", "file"], {"file": data}, status, printed.decode("latin-1"))
+        if due:
+            wrong.append(f"{data[:400]!r}: status {status}, printed {printed[:400]!r}; due: {due}")
+    return number, wrong
 
 
 # ---- inputs
@@ -453,22 +525,15 @@ class Sender:
         return ran.returncode, ran.stdout
 
 
-def random_end(rng, ids):
-    return rng.choice(ids) if rng.random() < 0.95 else rng.choice(["gone", "i" * 255, "i" * 256, "", "a b", "é", "\udcff"])
-
-
-def random_wish(rng, network, port):
-    if rng.random() < 0.04:
-        return rng.choice(NUMBERS + ["any", "-", "Any", ""])
-    return networks.random_wish(rng, network, port) if port in network.class_of else "any"
-
-
-def random_request(rng, network, ids):
-    ends = random_end(rng, ids), random_end(rng, ids)
-    if "x1" in ids and rng.random() < 0.5:
-        level = rng.choice([port[1] for port in ids if port[0] == "x"])
-        ends = f"x{level}", f"y{level}"
-    return [word for end in ends for word in (end, random_wish(rng, network, end))]
+def random_request(rng, network, ports):
+    """A request, mostly of a circuit of many hops; one end may be out of form, or no port, or not there with its label."""
+    request = networks.random_request(rng, network, ports)
+    if rng.random() < 0.1:
+        request[rng.choice([0, 2])] = rng.choice(["gone", "i" * 255, "i" * 256, "", "a b", "é", "\udcff"])
+    if rng.random() < 0.2:
+        label = str(rng.choice(networks.LABELS))
+        request[rng.choice([1, 3])] = rng.choice([label, label, rng.choice(NUMBERS), "-", ""])
+    return request
 
 
 def random_input(rng, sender):
@@ -525,11 +590,17 @@ def main():
     parser.add_argument("--seconds", type=float, default=60)
     parser.add_argument("--seed", type=int, default=int(time.time()) * 1000)
     parser.add_argument("--count", type=int)
+    parser.add_argument("--fixed", action="store_true")
     options = parser.parse_args()
     print(f"the first seed is {options.seed}", flush=True)
-    end, seen, differences, seed = time.monotonic() + options.seconds, collections.Counter(), 0, options.seed
+    seen, differences, seed = collections.Counter(), 0, options.seed
     with tempfile.TemporaryDirectory() as folder:
         sender = Sender(options.program, folder)
+        if options.fixed:
+            number, wrong = compare_fixed(sender)
+            print("\n".join([f"{number} fixed files, {len(wrong) or 'no'} difference{'s' if len(wrong) > 1 else ''}", *wrong]), flush=True)
+            differences += len(wrong)
+        end = time.monotonic() + options.seconds
         while differences < MOST_DIFFERENCES:
             if seed == options.seed + options.count if options.count else time.monotonic() >= end:
                 break

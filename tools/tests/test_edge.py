@@ -8,7 +8,7 @@ from common import FolderTest, finder_path, needs_finder, run_finder, topology
 
 USAGE = b"usage: find|route FROM LABEL TO LABEL FILE.. | check|replay ANSWER FILE.. | survey FILE.. | drill N\n"
 COUNTS = b"survey\ndomain d 3\nports 2\nclasses 2\nlinks 1\nservices 0\nopen-references 0\n"
-LITTLE_MEMORY = 8 << 20
+LITTLE_MEMORY = 16 << 20
 
 
 def run_in_little_memory(words: list[str]) -> subprocess.CompletedProcess[bytes]:

@@ -1,30 +1,33 @@
 -- The ports that Nodes lend to SwitchingServices, by numbers and by ids; and what the tables say of one element.
 use Rattle.std.proofs.Common.{◌≡◌, ℕ, zero, suc, ◌+◌, ◌<◌, ◌≤◌, ◌⊎◌, ◌==◌, inl, inr, List, [], ◌∷◌, Bool, true, false, ◌&&◌, cond, Option, None, Some, map, filter, length, get_or, refl, sym, ◌∙◌, ap, subst, arith}
 use Rattle.std.specs.Prelude.{slice_get, option_map, is_none, unwrap_or}
-use Rattle.std.specs.List.{list_any, All, enumerate_from}
+use Rattle.std.specs.List.{list_any, range_with_len, All, enumerate_from}
 use Rattle.std.specs.Str.{bytes_eq}
 use Rattle.std.proofs.lemmas.Bool.{eqb-true, cases_lt}
 use Rattle.std.proofs.lemmas.List.{length-map, get_or_past}
+use Rattle.std.proofs.lemmas.Option.{slice_get_within}
 use Rattle.std.proofs.lemmas.List.Elements.{All-append, All-filter, All-map, All-nil, All-cons, All-weaker}
 use Rattle.nml_elements.specs.declared.elements.NodeE.{NodeE}
 use Rattle.nml_elements.specs.declared.elements.SwitchE.{SwitchE}
 use Rattle.nml_elements.specs.declared.elements.Element.{Element}
 use Rattle.nml_elements.specs.declared.elements.Element.TheVariants as element
 use Rattle.alias_merge.specs.Groups.{ComeFromBelow}
-use Rattle.alias_merge.specs.Rising.{LeadBelow, has_arc, holds}
+use Rattle.alias_merge.specs.Rising.{LeadBelow, has_arc, holds, rising_leads}
 use Rattle.circuit_spec.specs.Network.{Name, Topology, Placed, Port, elements_of, id_of, names, ports}
 use Rattle.circuit_spec.specs.Steps.{has_encoding, inbound_of, outbound_of}
 use Rattle.nml_inventory.specs.declared.arcs.Listing.{Listing}
 use Rattle.nml_inventory.specs.declared.arcs.Listing.TheVariants.{Inbound, Outbound}
+use Rattle.nml_inventory.specs.declared.loans.Loan.{Loan}
 use Rattle.nml_inventory.specs.Lent.{lends}
+use Rattle.nml_inventory.specs.Loans.{ArePlacesOf, lent_arcs, lent_by, loan_at, loans_from, no_loan, shared}
 use Rattle.nml_inventory.specs.Relations.{AreNumbersOf, numbers_where}
-use Rattle.nml_inventory.specs.Tables.{IsTable, in_element, inbound_in, outbound_in, lending_in, lending_nodes, listed_ports, lent_arcs, lent_at, lent_by, lent_of, lent_over, lent_ports, lent_to, takes, takes_number}
+use Rattle.nml_inventory.specs.Tables.{IsTable, in_element, inbound_in, outbound_in, lending_in, lending_nodes, listed_ports, lent_of, lent_over, lent_ports, lent_to, takes, takes_number}
 use Rattle.nml_inventory.proofs.ClassNumbers.{port_id}
 use Rattle.nml_inventory.proofs.Distinct.{AreDistinct, has_at}
 use Rattle.nml_inventory.proofs.Gets.{one_of_some}
 use Rattle.nml_inventory.proofs.LentPorts.{ports_of_services}
 use Rattle.nml_inventory.proofs.Searches.{any_filter, any_flat, any_same}
-use Rattle.nml_inventory.proofs.Tabling.{Arc, any_and, any_numbers, held_number, numbers_from, row_at, rows_all, table}
+use Rattle.nml_inventory.proofs.Tabling.{Arc, any_and, any_numbers, filter_numbers, held_number, numbers_from, row_at, rows_all}
 use Rattle.alias_merge.proofs.Sorting.{any_map}
 
 pub mapped_at : {A B : Type 0} (f : A → B) (xs : List A) (i : ℕ) (x : A) (d : B) → slice_get xs i ≡ Some x → get_or (map f xs) i d ≡ f x
@@ -95,32 +98,16 @@ lent_over_leads T listed service encoding nodes i j =
     ∙ any_and ((service == i) && k) (λ m. holds (get_or listed m []) j) nodes
     ∙ and_assoc (service == i) k (list_any (λ m. holds (get_or listed m []) j) nodes)
 
-abbrev lends_number : Topology → List (List ℕ) → List (List ℕ) → ℕ → Element → ℕ → Bool
-lends_number T nodes listed n (element.Switching s) j =
-    (is_none s.inbound && is_none s.outbound) && (takes_number T s.encoding j && list_any (λ m. holds (get_or listed m []) j) (get_or nodes n []))
-lends_number T nodes listed n (element.Node x) j = false
-lends_number T nodes listed n (element.Port x) j = false
-lends_number T nodes listed n (element.Link x) j = false
-lends_number T nodes listed n (element.Adaptation x) j = false
-lends_number T nodes listed n (element.Deadaptation x) j = false
-lends_number T nodes listed n (element.Conversion x) j = false
+-- whether the Nodes of a loan hold the number of a port that has its encoding
+abbrev loan_holds : Topology → List (List ℕ) → Loan → ℕ → Bool
+loan_holds T listed l j = takes_number T l.encoding j && list_any (λ m. holds (get_or listed m []) j) l.nodes
 
-no_arc : (b : Bool) → false ≡ (b && false)
-no_arc true = refl
-no_arc false = refl
+abbrev pub list_of : Topology → List (List ℕ) → Loan → List ℕ
+list_of T listed l = filter (loan_holds T listed l) (range_with_len 0 (length (ports T)))
 
-if_none : (T : Topology) (listed : List (List ℕ)) (n : ℕ) (encoding : Option Name) (nodes : List ℕ) (i j : ℕ) (b : Bool) → has_arc (cond b (lent_over T listed n encoding nodes) []) i j ≡ ((n == i) && (b && (takes_number T encoding j && list_any (λ m. holds (get_or listed m []) j) nodes)))
-if_none T listed n encoding nodes i j true = lent_over_leads T listed n encoding nodes i j
-if_none T listed n encoding nodes i j false = no_arc (n == i)
-
-lent_at_leads : (T : Topology) (nodes listed : List (List ℕ)) (n : ℕ) (e : Element) (i j : ℕ) → has_arc (lent_at T nodes listed n e) i j ≡ ((n == i) && lends_number T nodes listed n e j)
-lent_at_leads T nodes listed n (element.Switching s) i j = if_none T listed n s.encoding (get_or nodes n []) i j (is_none s.inbound && is_none s.outbound)
-lent_at_leads T nodes listed n (element.Node x) i j = no_arc (n == i)
-lent_at_leads T nodes listed n (element.Port x) i j = no_arc (n == i)
-lent_at_leads T nodes listed n (element.Link x) i j = no_arc (n == i)
-lent_at_leads T nodes listed n (element.Adaptation x) i j = no_arc (n == i)
-lent_at_leads T nodes listed n (element.Deadaptation x) i j = no_arc (n == i)
-lent_at_leads T nodes listed n (element.Conversion x) i j = no_arc (n == i)
+and_false : (b : Bool) → (b && false) ≡ false
+and_false true = refl
+and_false false = refl
 
 -- the Nodes of a service hold a port's number where they lend the port
 nodes_hold : (T : Topology) (listing : Listing) (i j : ℕ) (e : Placed) (q : Port) → slice_get (elements_of T) i ≡ Some e → slice_get (ports T) j ≡ Some q → list_any (λ m. holds (get_or (listed_ports T listing) m []) j) (get_or (lending_nodes T) i []) ≡ list_any (λ (n : Placed). names (lending_in n.element) (id_of e.element) && names (in_element listing n.element) q.id) (elements_of T)
@@ -135,34 +122,79 @@ nodes_hold T listing i j e q at_i at_j =
     ∙ ap (holds (numbers_where (λ (y : Port). names (in_element listing n.element) y.id) (ports T))) g
     ∙ held_number (λ (y : Port). names (in_element listing n.element) y.id) 0 (ports T) j q at_j)
 
-lends_as : (T : Topology) (listing : Listing) (i j : ℕ) (x : Placed) (e : Element) (q : Port) → slice_get (elements_of T) i ≡ Some x → x.element ≡ e → slice_get (ports T) j ≡ Some q → lends_number T (lending_nodes T) (listed_ports T listing) i e j ≡ lent_to T listing e q
-lends_as T listing i j x (element.Switching s) q at_i is at_j =
+if_lent : (T : Topology) (listed : List (List ℕ)) (l : Loan) (j : ℕ) (b : Bool) → loan_holds T listed (cond b l no_loan) j ≡ (b && loan_holds T listed l j)
+if_lent T listed l j true = refl
+if_lent T listed l j false = and_false (takes_number T None j)
+
+loan_lends : (T : Topology) (listing : Listing) (i j : ℕ) (x : Placed) (e : Element) (q : Port) → slice_get (elements_of T) i ≡ Some x → x.element ≡ e → slice_get (ports T) j ≡ Some q → loan_holds T (listed_ports T listing) (loan_at (lending_nodes T) i e) j ≡ lent_to T listing e q
+loan_lends T listing i j x (element.Switching s) q at_i is at_j =
     let none = is_none s.inbound && is_none s.outbound in
-    ap (λ (o : Option Port). none && (unwrap_or (option_map (takes s.encoding) o) false && list_any (λ m. holds (get_or (listed_ports T listing) m []) j) (get_or (lending_nodes T) i []))) at_j
+    if_lent T (listed_ports T listing) (record { encoding = s.encoding; nodes = get_or (lending_nodes T) i [] }) j none
+    ∙ ap (λ (o : Option Port). none && (unwrap_or (option_map (takes s.encoding) o) false && list_any (λ m. holds (get_or (listed_ports T listing) m []) j) (get_or (lending_nodes T) i []))) at_j
     ∙ ap (λ b. none && (takes s.encoding q && b)) (nodes_hold T listing i j x q at_i at_j)
     ∙ ap (λ (f : Element). none && (takes s.encoding q && list_any (λ (n : Placed). names (lending_in n.element) (id_of f) && names (in_element listing n.element) q.id) (elements_of T))) is
-lends_as T listing i j x (element.Node y) q at_i is at_j = refl
-lends_as T listing i j x (element.Port y) q at_i is at_j = refl
-lends_as T listing i j x (element.Link y) q at_i is at_j = refl
-lends_as T listing i j x (element.Adaptation y) q at_i is at_j = refl
-lends_as T listing i j x (element.Deadaptation y) q at_i is at_j = refl
-lends_as T listing i j x (element.Conversion y) q at_i is at_j = refl
+loan_lends T listing i j x (element.Node y) q at_i is at_j = and_false (takes_number T None j)
+loan_lends T listing i j x (element.Port y) q at_i is at_j = and_false (takes_number T None j)
+loan_lends T listing i j x (element.Link y) q at_i is at_j = and_false (takes_number T None j)
+loan_lends T listing i j x (element.Adaptation y) q at_i is at_j = and_false (takes_number T None j)
+loan_lends T listing i j x (element.Deadaptation y) q at_i is at_j = and_false (takes_number T None j)
+loan_lends T listing i j x (element.Conversion y) q at_i is at_j = and_false (takes_number T None j)
 
--- lending by numbers is lending by ids
-pub lent_are : (T : Topology) (listing : Listing) → lent_by T (lending_nodes T) (listed_ports T listing) ≡ lent_ports T listing
-lent_are T listing =
+filter_as : {A : Type 0} (s t : A → Bool) → ((x : A) → s x ≡ t x) → (xs : List A) → filter s xs ≡ filter t xs
+filter_as s t same [] = refl
+filter_as {A} s t same (x ∷ xs) = ap (λ b. cond b (x ∷ filter s xs) (filter s xs)) (same x) ∙ ap (λ (ys : List A). cond (t x) (x ∷ ys) ys) (filter_as s t same xs)
+
+-- what is made of the numbers of a range, where it is that of the items
+ranged : {A B : Type 0} (f : ℕ → B) (g : A → B) (a : ℕ) (xs : List A) → ((i : ℕ) (x : A) → slice_get xs i ≡ Some x → f (a + i) ≡ g x) → map f (range_with_len a (length xs)) ≡ map g xs
+ranged f g a [] same = refl
+ranged {A} {B} f g a (x ∷ xs) same =
+    let e : a ≡ a + 0 = omega arith in
+    ap (λ (y : B). y ∷ map f (range_with_len (a + 1) (length xs))) (ap f e ∙ same 0 x refl)
+    ∙ ap (λ (ys : List B). g x ∷ ys) (ranged f g (a + 1) xs (λ i y at. let k : a + 1 + i ≡ a + suc i = omega arith in ap f k ∙ same (suc i) y at))
+
+-- the ports of each loan
+lists_are : (T : Topology) (listed : List (List ℕ)) (kinds : List Loan) → lent_by T listed kinds ≡ map (list_of T listed) kinds
+lists_are T listed kinds =
+    let row : ℕ → Loan → List Arc = λ n l. lent_over T listed n l.encoding l.nodes in
+    ranged (rising_leads (length (ports T)) (lent_arcs T listed kinds)) (list_of T listed) 0 kinds
+    (λ i l at.
+    filter_as (has_arc (lent_arcs T listed kinds) (0 + i)) (loan_holds T listed l)
+    (λ j. row_at row (λ n k. loan_holds T listed k j) 0 kinds i j l (λ n k m. lent_over_leads T listed n k.encoding k.nodes m j) at)
+    (range_with_len 0 (length (ports T))))
+
+-- the lists at the places of loans are those of the loans
+at_places : (g : Loan → List ℕ) (kinds : List Loan) (rows : List ℕ) (loans : List Loan) → ArePlacesOf kinds rows loans → shared (map g kinds) rows ≡ map g loans
+at_places g kinds [] [] are = refl
+at_places g kinds [] (l ∷ loans) are = absurd are
+at_places g kinds (r ∷ rows) [] are = absurd are
+at_places g kinds (r ∷ rows) (l ∷ loans) are =
+    ap (λ ns. ns ∷ shared (map g kinds) rows) (mapped_at g kinds r l [] are.0)
+    ∙ ap (λ rest. g l ∷ rest) (at_places g kinds rows loans are.1)
+
+loans_lend : (nodes : List (List ℕ)) (g : Loan → List ℕ) (h : Placed → List ℕ) (a : ℕ) (es : List Placed) → ((i : ℕ) (e : Placed) → slice_get es i ≡ Some e → g (loan_at nodes (a + i) e.element) ≡ h e) → map g (loans_from nodes a es) ≡ map h es
+loans_lend nodes g h a [] same = refl
+loans_lend nodes g h a (e ∷ es) same =
+    let k : a ≡ a + 0 = omega arith in
+    ap (λ ns. ns ∷ map g (loans_from nodes (a + 1) es)) (ap (λ n. g (loan_at nodes n e.element)) k ∙ same 0 e refl)
+    ∙ ap (λ rest. h e ∷ rest) (loans_lend nodes g h (a + 1) es (λ i x at. let m : a + 1 + i ≡ a + suc i = omega arith in ap (λ n. g (loan_at nodes n x.element)) m ∙ same (suc i) x at))
+
+-- lending by loans is lending by ids
+pub lent_are : (T : Topology) (listing : Listing) (kinds : List Loan) (rows : List ℕ) → ArePlacesOf kinds rows (loans_from (lending_nodes T) 0 (elements_of T)) → shared (lent_by T (listed_ports T listing) kinds) rows ≡ lent_ports T listing
+lent_are T listing kinds rows are =
     let nodes = lending_nodes T in
     let listed = listed_ports T listing in
-    let row : ℕ → Placed → List Arc = λ n e. lent_at T nodes listed n e.element in
-    table (has_arc (lent_arcs T nodes listed)) (λ (e : Placed) (q : Port). lent_to T listing e.element q) (ports T) 0 (elements_of T)
-    (λ i e j q at_i at_j.
+    ap (λ lists. shared lists rows) (lists_are T listed kinds)
+    ∙ at_places (list_of T listed) kinds rows (loans_from nodes 0 (elements_of T)) are
+    ∙ loans_lend nodes (list_of T listed) (λ (e : Placed). numbers_where (lent_to T listing e.element) (ports T)) 0 (elements_of T)
+    (λ i e at.
     let f : 0 + i ≡ i = omega arith in
-    row_at row (λ n x. lends_number T nodes listed n x.element j) 0 (elements_of T) i j e (λ n x k. lent_at_leads T nodes listed n x.element k j) at_i
-    ∙ ap (λ n. lends_number T nodes listed n e.element j) f ∙ lends_as T listing i j e e.element q at_i refl at_j)
+    ap (λ n. list_of T listed (loan_at nodes n e.element)) f
+    ∙ filter_numbers (loan_holds T listed (loan_at nodes i e.element)) (lent_to T listing e.element) 0 (ports T)
+    (λ j q at_j. let g : 0 + j ≡ j = omega arith in ap (loan_holds T listed (loan_at nodes i e.element)) g ∙ loan_lends T listing i j e e.element q at refl at_j))
 
 -- Bounds of the arcs
 
-row_below : (rows top : ℕ) (t : List (List ℕ)) (m : ℕ) → IsTable rows top t → (m < length t) ⊎ (length t ≤ m) → All (λ n. n < top) (get_or t m [])
+pub row_below : (rows top : ℕ) (t : List (List ℕ)) (m : ℕ) → IsTable rows top t → (m < length t) ⊎ (length t ≤ m) → All (λ n. n < top) (get_or t m [])
 row_below rows top t m is (inl h) = is.below m [] h
 row_below rows top t m is (inr h) = subst (λ (ns : List ℕ). All (λ n. n < top) ns) (sym (get_or_past t m [] h)) (All-nil (λ n. n < top))
 
@@ -177,30 +209,24 @@ module _ (P : Arc → Type 0) (T : Topology) (listed : List (List ℕ)) (is : Is
       (All-weaker (λ q. q < length (ports T)) (λ q. P (service, q)) all found (row_below (length (elements_of T)) (length (ports T)) listed m is (cases_lt m (length listed))))))
       (over_all service encoding all nodes)
 
-  over_if : (service : ℕ) (encoding : Option Name) (nodes : List ℕ) (b : Bool) → ((q : ℕ) → q < length (ports T) → P (service, q)) → All P (cond b (lent_over T listed service encoding nodes) [])
-  over_if service encoding nodes true all = over_all service encoding all nodes
-  over_if service encoding nodes false all = All-nil P
+pub lent_from_below : (T : Topology) (kinds : List Loan) (listed : List (List ℕ)) → IsTable (length (elements_of T)) (length (ports T)) listed → ComeFromBelow (length kinds) (lent_arcs T listed kinds)
+lent_from_below T kinds listed is =
+    let P : Arc → Type 0 = λ a. a.0 < length kinds in
+    rows_all (λ (n : ℕ) (l : Loan). lent_over T listed n l.encoding l.nodes) P 0 kinds
+    (λ i l h. over_all P T listed is (0 + i) l.encoding (λ q k. omega arith) l.nodes)
 
-  lent_at_all : (nodes : List (List ℕ)) (n : ℕ) (e : Element) → ((q : ℕ) → q < length (ports T) → P (n, q)) → All P (lent_at T nodes listed n e)
-  lent_at_all nodes n (element.Switching s) all = over_if n s.encoding (get_or nodes n []) (is_none s.inbound && is_none s.outbound) all
-  lent_at_all nodes n (element.Node x) all = All-nil P
-  lent_at_all nodes n (element.Port x) all = All-nil P
-  lent_at_all nodes n (element.Link x) all = All-nil P
-  lent_at_all nodes n (element.Adaptation x) all = All-nil P
-  lent_at_all nodes n (element.Deadaptation x) all = All-nil P
-  lent_at_all nodes n (element.Conversion x) all = All-nil P
-
-pub lent_from_below : (T : Topology) (nodes listed : List (List ℕ)) → IsTable (length (elements_of T)) (length (ports T)) listed → ComeFromBelow (length (elements_of T)) (lent_arcs T nodes listed)
-lent_from_below T nodes listed is =
-    let P : Arc → Type 0 = λ a. a.0 < length (elements_of T) in
-    rows_all (λ (n : ℕ) (e : Placed). lent_at T nodes listed n e.element) P 0 (elements_of T)
-    (λ i e h. lent_at_all P T listed is nodes (0 + i) e.element (λ q l. omega arith))
-
-pub lent_to_below : (T : Topology) (nodes listed : List (List ℕ)) → IsTable (length (elements_of T)) (length (ports T)) listed → LeadBelow (length (ports T)) (lent_arcs T nodes listed)
-lent_to_below T nodes listed is =
+pub lent_to_below : (T : Topology) (kinds : List Loan) (listed : List (List ℕ)) → IsTable (length (elements_of T)) (length (ports T)) listed → LeadBelow (length (ports T)) (lent_arcs T listed kinds)
+lent_to_below T kinds listed is =
     let P : Arc → Type 0 = λ a. a.1 < length (ports T) in
-    rows_all (λ (n : ℕ) (e : Placed). lent_at T nodes listed n e.element) P 0 (elements_of T)
-    (λ i e h. lent_at_all P T listed is nodes (0 + i) e.element (λ q l. l))
+    rows_all (λ (n : ℕ) (l : Loan). lent_over T listed n l.encoding l.nodes) P 0 kinds
+    (λ i l h. over_all P T listed is (0 + i) l.encoding (λ q k. k) l.nodes)
+
+-- the places of loans are within the list
+pub places_within : (kinds : List Loan) (rows : List ℕ) (loans : List Loan) → ArePlacesOf kinds rows loans → All (λ r. r < length kinds) rows
+places_within kinds [] [] are = All-nil (λ r. r < length kinds)
+places_within kinds [] (l ∷ loans) are = absurd are
+places_within kinds (r ∷ rows) [] are = absurd are
+places_within kinds (r ∷ rows) (l ∷ loans) are = All-cons (λ n. n < length kinds) r rows (slice_get_within kinds r l are.0) (places_within kinds rows loans are.1)
 
 -- One element's ports
 

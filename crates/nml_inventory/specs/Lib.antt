@@ -5,5 +5,6 @@ pub mod Aliases
 pub mod Lent
 pub mod Relations
 pub mod Tables
+pub mod Loans
 pub mod Related
 pub mod ClassSets

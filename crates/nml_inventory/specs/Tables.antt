@@ -5,12 +5,11 @@
 --   lending_nodes   for each element the Nodes that name it as a service
 --   lent_ports      for each SwitchingService that lists nothing the ports that Nodes lend to it
 use Rattle.std.specs.Prelude.{◌≡◌, ℕ, ◌+◌, ◌<◌, All, ◌&&◌, List, [], ◌∷◌, ◌++◌, Bool, true, false, cond, Option, None, Some, is_none, unwrap_or, option_map, map, filter, length, slice_get, slice_index_or}
-use Rattle.std.specs.List.{flat_map, list_any, range_with_len}
+use Rattle.std.specs.List.{flat_map, list_any}
 use Rattle.std.specs.Str.{bytes_eq}
 use Rattle.nml_elements.specs.declared.elements.PortE.{PortE}
 use Rattle.nml_elements.specs.declared.elements.Element.{Element}
 use Rattle.nml_elements.specs.declared.elements.Element.TheVariants as element
-use Rattle.alias_merge.specs.Rising.{rising_leads}
 use Rattle.circuit_spec.specs.Network.{Name, Topology, Placed, Port, elements_of, id_of, names, ports}
 use Rattle.nml_inventory.specs.declared.arcs.PortMember.{PortMember}
 use Rattle.nml_inventory.specs.declared.arcs.PortMember.TheVariants.{Sources, Sinks, Services}
@@ -119,29 +118,13 @@ lent_ports T listing = map (λ (e : Placed). numbers_where (lent_to T listing e.
 abbrev pub takes_number : Topology → Option Name → ℕ → Bool
 takes_number T encoding n = unwrap_or (option_map (takes encoding) (slice_get (ports T) n)) false
 
--- the service with those of the ports that have the encoding
+-- the row with those of the ports that have the encoding
 abbrev pub lent_of : Topology → ℕ → Option Name → List ℕ → List (ℕ × ℕ)
-lent_of T service encoding found = map (λ p. (service, p)) (filter (takes_number T encoding) found)
+lent_of T row encoding found = map (λ p. (row, p)) (filter (takes_number T encoding) found)
 
--- the service with the ports of all these Nodes
+-- the row with the ports of all these Nodes
 abbrev pub lent_over : Topology → List (List ℕ) → ℕ → Option Name → List ℕ → List (ℕ × ℕ)
-lent_over T listed service encoding nodes = flat_map (λ n. lent_of T service encoding (slice_index_or listed n [])) nodes
-
-abbrev pub lent_at : Topology → List (List ℕ) → List (List ℕ) → ℕ → Element → List (ℕ × ℕ)
-lent_at T nodes listed number (element.Switching s) =
-    cond (is_none s.inbound && is_none s.outbound) (lent_over T listed number s.encoding (slice_index_or nodes number [])) []
-lent_at T nodes listed number (element.Node n) = []
-lent_at T nodes listed number (element.Port p) = []
-lent_at T nodes listed number (element.Link l) = []
-lent_at T nodes listed number (element.Adaptation a) = []
-lent_at T nodes listed number (element.Deadaptation a) = []
-lent_at T nodes listed number (element.Conversion c) = []
-
-abbrev pub lent_arcs : Topology → List (List ℕ) → List (List ℕ) → List (ℕ × ℕ)
-lent_arcs T nodes listed = rows_from (λ (n : ℕ) (e : Placed). lent_at T nodes listed n e.element) 0 (elements_of T)
-
-abbrev pub lent_by : Topology → List (List ℕ) → List (List ℕ) → List (List ℕ)
-lent_by T nodes listed = map (rising_leads (length (ports T)) (lent_arcs T nodes listed)) (range_with_len 0 (length (elements_of T)))
+lent_over T listed row encoding nodes = flat_map (λ n. lent_of T row encoding (slice_index_or listed n [])) nodes
 
 -- a table of this many rows of numbers below top
 pub record IsTable (rows top : ℕ) (numbers : List (List ℕ)) : Type 0 where

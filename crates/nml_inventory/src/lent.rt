@@ -1,92 +1,67 @@
-ghost use Rattle.std.specs.Prelude.{◌≡◌, ◌<◌, ◌++◌, All, [], IfOk, OnOk, length, map};
+ghost use Rattle.std.specs.Prelude.{◌≡◌, ◌<◌, ◌^◌, ◌++◌, All, IfOk, OnOk, length, map};
 ghost use Rattle.ml_base.specs.declared.numbers.PortNo.{PortNo as PortNumber};
 ghost use Rattle.circuit_spec.specs.Network.{elements_of, ports};
-ghost use Rattle.nml_inventory.specs.Tables.{held_by, IsTable, lent_arcs, lent_at, lent_by, lent_of, lent_over, takes_number};
+ghost use Rattle.nml_inventory.specs.Loans.{AreLoans, LendWithin, lent_arcs, lent_by, shared};
+ghost use Rattle.nml_inventory.specs.Tables.{held_by, IsTable, lent_of, lent_over, takes_number};
 
+use crate::loans::{Loan, Loans};
 use crate::numbered::Numbered;
 use crate::relation::Relation;
-use alias_merge::{Groups, rising_groups};
+use crate::shared::Shared;
+use alias_merge::rising_groups;
 use ml_base::{Id, NoMemory, PortNo};
 use nml_elements::Element;
 use std::alloc::{AllocError, Global};
 
-/// For each SwitchingService that lists nothing the ports that Nodes lend to it, by the Nodes that name each service and the ports
-/// that each Node lists.
+/// For each SwitchingService that lists nothing the ports that Nodes lend to it, by the loans and the ports that each Node lists. The
+/// ports of a loan are kept once.
 pub fn lent_ports(
     alloc: Global,
     numbered: &Numbered,
-    nodes: &Groups,
+    loans: &Loans,
     listed: &Relation,
-) -> Result<Relation, NoMemory>
-    requires nodes { IsTable (length (elements_of numbered.now)) (length (elements_of numbered.now)) nodes.now }
+) -> Result<Shared, NoMemory>
+    requires loans { AreLoans numbered.now loans.now.kinds.keys loans.now.rows.items }
     requires listed { IsTable (length (elements_of numbered.now)) (length (ports numbered.now)) listed.now }
-    ensures { IfOk result (λ relation. relation ≡ lent_by numbered.now nodes.now listed.now) }
+    ensures { IfOk result (λ table. table ≡ shared (lent_by numbered.now listed.now loans.now.kinds.keys) loans.now.rows.items) }
 {
-    match arcs(alloc, numbered, nodes, listed) {
+    let kinds = loans.kinds.as_slice();
+    let count = kinds.len() as u32;
+    match arcs(alloc, numbered, kinds, listed) {
         Ok(arcs) => {
-            let count = numbered.elements();
             let groups = rising_groups(alloc, count, numbered.ports(), &arcs)?;
-            Relation::new(alloc, count, &groups)
+            let lists = Relation::new(alloc, count, &groups)?;
+            Shared::new(alloc, lists, loans.rows.as_slice())
         }
         Err(_) => Err(NoMemory),
     }
 }
 
-/// The numbers of all such services with those of their ports.
+/// The numbers of all loans with those of their ports.
 fn arcs(
     alloc: Global,
     numbered: &Numbered,
-    nodes: &Groups,
+    kinds: &[Loan],
     listed: &Relation,
 ) -> Result<Vec<(u32, u32)>, AllocError>
-    requires nodes { IsTable (length (elements_of numbered.now)) (length (elements_of numbered.now)) nodes.now }
+    requires few { length kinds.now < 2 ^ 32 }
+    requires nodes { All (LendWithin (length (elements_of numbered.now))) kinds.now }
     requires listed { IsTable (length (elements_of numbered.now)) (length (ports numbered.now)) listed.now }
-    ensures { IfOk result (λ arcs. arcs.items ≡ lent_arcs numbered.now nodes.now listed.now) }
+    ensures { IfOk result (λ arcs. arcs.items ≡ lent_arcs numbered.now listed.now kinds.now) }
 {
     let mut arcs = Vec::new(alloc);
-    for number in 0..numbered.elements() {
-        let element = numbered.at(u64::from(number));
-        lend(&mut arcs, numbered, nodes, listed, number, element)?;
+    for row in 0..kinds.len() {
+        let loan = &kinds[row];
+        lend_nodes(
+            &mut arcs,
+            numbered,
+            listed,
+            row as u32,
+            &loan.encoding,
+            loan.nodes.as_slice(),
+        )?;
     }
     Ok(arcs)
-}
-
-/// Adds the ports that are lent to an element.
-fn lend(
-    arcs: &mut Vec<(u32, u32)>,
-    numbered: &Numbered,
-    nodes: &Groups,
-    listed: &Relation,
-    number: u32,
-    element: &Element,
-) -> Result<(), AllocError>
-    requires nodes { IsTable (length (elements_of numbered.now)) (length (elements_of numbered.now)) nodes.now }
-    requires listed { IsTable (length (elements_of numbered.now)) (length (ports numbered.now)) listed.now }
-    requires within { number < length (elements_of numbered.now) }
-    ensures { OnOk result (arcs.new.items ≡ arcs.old.items ++ lent_at numbered.now nodes.now listed.now number element.now) }
-{
-    match element {
-        Element::Switching(s) => {
-            if s.inbound.is_none() && s.outbound.is_none() {
-                lend_nodes(
-                    arcs,
-                    numbered,
-                    listed,
-                    number,
-                    &s.encoding,
-                    nodes.of(number),
-                )
-            } else {
-                Ok(())
-            }
-        }
-        Element::Node(_) => Ok(()),
-        Element::Port(_) => Ok(()),
-        Element::Link(_) => Ok(()),
-        Element::Adaptation(_) => Ok(()),
-        Element::Deadaptation(_) => Ok(()),
-        Element::Conversion(_) => Ok(()),
-    }
 }
 
 /// Adds the ports of Nodes that have the encoding, where one is stated.
@@ -94,22 +69,16 @@ fn lend_nodes(
     arcs: &mut Vec<(u32, u32)>,
     numbered: &Numbered,
     listed: &Relation,
-    service: u32,
+    row: u32,
     encoding: &Option<Id>,
     nodes: &[u32],
 ) -> Result<(), AllocError>
     requires listed { IsTable (length (elements_of numbered.now)) (length (ports numbered.now)) listed.now }
     requires nodes { All (λ n. n < length (elements_of numbered.now)) nodes.now }
-    ensures { OnOk result (arcs.new.items ≡ arcs.old.items ++ lent_over numbered.now listed.now service encoding.now nodes.now) }
+    ensures { OnOk result (arcs.new.items ≡ arcs.old.items ++ lent_over numbered.now listed.now row encoding.now nodes.now) }
 {
     for node in nodes {
-        lend_ports(
-            arcs,
-            numbered,
-            service,
-            encoding,
-            listed.of(u64::from(*node)),
-        )?;
+        lend_ports(arcs, numbered, row, encoding, listed.of(u64::from(*node)))?;
     }
     Ok(())
 }
@@ -118,16 +87,16 @@ fn lend_nodes(
 fn lend_ports(
     arcs: &mut Vec<(u32, u32)>,
     numbered: &Numbered,
-    service: u32,
+    row: u32,
     encoding: &Option<Id>,
     found: &[PortNo],
 ) -> Result<(), AllocError>
     requires { All (λ n. n < length (ports numbered.now)) (map (λ (p : PortNumber). p.0) found.now) }
-    ensures { OnOk result (arcs.new.items ≡ arcs.old.items ++ lent_of numbered.now service encoding.now (map (λ (p : PortNumber). p.0) found.now)) }
+    ensures { OnOk result (arcs.new.items ≡ arcs.old.items ++ lent_of numbered.now row encoding.now (map (λ (p : PortNumber). p.0) found.now)) }
 {
     for port in found {
         if takes(numbered, encoding, *port) {
-            arcs.push((service, port.0))?;
+            arcs.push((row, port.0))?;
         }
     }
     Ok(())

@@ -7,8 +7,10 @@ ghost use Rattle.nml_inventory.specs.Related.{AreRelations};
 
 use crate::arcs::{Listing, PortMember, element_arcs, port_arcs};
 use crate::lent::lent_ports;
+use crate::loans::loans_of;
 use crate::numbered::Numbered;
 use crate::relation::Relation;
+use crate::shared::Shared;
 use alias_merge::{Groups, rising_groups, turned};
 use ml_base::NoMemory;
 use std::alloc::Global;
@@ -22,8 +24,8 @@ pub struct Relations {
     pub clients: Relation,
     pub inbound: Relation,
     pub outbound: Relation,
-    pub lent_inbound: Relation,
-    pub lent_outbound: Relation,
+    pub lent_inbound: Shared,
+    pub lent_outbound: Shared,
 }
 
 impl Relations {
@@ -32,10 +34,11 @@ impl Relations {
         ensures { IfOk result (AreRelations numbered.now) }
     {
         let nodes = lending_nodes(alloc, numbered)?;
+        let loans = loans_of(alloc, numbered, &nodes)?;
         let inbound = listed_ports(alloc, numbered, Listing::Inbound)?;
         let outbound = listed_ports(alloc, numbered, Listing::Outbound)?;
-        let lent_inbound = lent_ports(alloc, numbered, &nodes, &inbound)?;
-        let lent_outbound = lent_ports(alloc, numbered, &nodes, &outbound)?;
+        let lent_inbound = lent_ports(alloc, numbered, &loans, &inbound)?;
+        let lent_outbound = lent_ports(alloc, numbered, &loans, &outbound)?;
         let sources = naming_ports(alloc, numbered, PortMember::Sources)?;
         let sinks = naming_ports(alloc, numbered, PortMember::Sinks)?;
         let servers = naming_ports(alloc, numbered, PortMember::Services)?;

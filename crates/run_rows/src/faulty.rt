@@ -2,7 +2,8 @@
 use io_edges::MemFiles;
 use ml_base::NoMemory;
 
-const ONE: &str =
+/// One link from `a` to `b`.
+pub const ONE: &str =
     "{\"elements\":[{\"id\":\"a\",\"isSource\":[\"l\"],\"type\":\"Port\"},{\"id\":\"b\",\"isSink\":[\"l\"],\"type\":\"Port\"},{\"id\":\"l\",\"type\":\"Link\"}],\"format\":1,\"topology\":\"d\"}";
 
 const NO_BYTES: &str = "";

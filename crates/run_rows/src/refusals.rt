@@ -1,18 +1,20 @@
 // Refused words, requests and reads, and counts.
-use crate::rows::{ends_so, first_that_differs};
-use io_edges::MemFiles;
+use crate::rows::first_that_differs;
 use std::test::Fail;
+
+/// What is printed where the words spell no command.
+pub const USAGE: &str =
+    "usage: find|route FROM LABEL TO LABEL FILE.. | check|replay ANSWER FILE.. | survey FILE.. | drill N\n";
 
 #[test]
 fn usage(rt: HostRuntime) -> Result<(), Fail> {
     let alloc = rt.alloc();
-    let usage =
-        "usage: find|route FROM LABEL TO LABEL FILE.. | check|replay ANSWER FILE.. | survey FILE.. | drill N\n";
     let rows = [
-        ("route", 2, usage),
-        ("find a 07 b any one.json", 2, usage),
-        ("drill 0", 2, usage),
-        ("survey", 2, usage),
+        ("find", 2, USAGE),
+        ("route", 2, USAGE),
+        ("find a 07 b any one.json", 2, USAGE),
+        ("drill 0", 2, USAGE),
+        ("survey", 2, USAGE),
     ];
     assert_eq!(rt; first_that_differs(alloc, &rows)?, None);
     Ok(())
@@ -59,16 +61,5 @@ fn counts(rt: HostRuntime) -> Result<(), Fail> {
         "survey\ndomain d 7\nports 4\nclasses 4\nlinks 1\nservices 2\nopen-references 0\n",
     )];
     assert_eq!(rt; first_that_differs(alloc, &rows)?, None);
-    Ok(())
-}
-
-#[test]
-fn a_file_that_is_too_big(rt: HostRuntime) -> Result<(), Fail> {
-    let alloc = rt.alloc();
-    let mut files = MemFiles::new(alloc);
-    let mut bytes = Vec::new(alloc);
-    bytes.resize(16_777_217, 0x20u8)?;
-    files.put("big.json", bytes.as_slice())?;
-    assert!(rt; ends_so(alloc, "survey big.json", &mut files, 11, "read 1 too-big\n")?);
     Ok(())
 }

@@ -2,7 +2,7 @@
 use crate::faulty::put_faulty;
 use crate::topologies::put_sound;
 use finder_cli::run;
-use io_edges::{MemFiles, MemSink};
+use io_edges::{Files, MemFiles, MemSink};
 use ml_base::NoMemory;
 use std::alloc::{AllocError, Global};
 use std::test::Fail;
@@ -24,10 +24,10 @@ pub fn words_of(alloc: Global, text: &str) -> Result<Vec<String>, AllocError> {
 }
 
 /// Whether the words over these files end with this status and print this text.
-pub fn ends_so(
+pub fn ends_so<F: Files>(
     alloc: Global,
     words: &str,
-    files: &mut MemFiles,
+    files: &mut F,
     status: u8,
     printed: &str,
 ) -> Result<bool, Fail> {
