@@ -10,8 +10,8 @@ big; or a document over it that is damaged in such ways; or words out of form. I
 The plain reading takes files, their faults and the verdict on a document from tools/verify, a checker that was written from FORMATS.md. It
 adds here the words, reading, the faults of a request, counts, replay, and the least weights over kept labels (random_networks.py).
 
-With `--fixed` it first sends files that no dice make: each number, text and depth at the limits, in each place where one may stand, and
-each member of each type with each of some values.
+One input in five is a file that no dice make: a number, text or depth at the limits, in a place where one may stand, or a member of a
+type with one of some values. With `--fixed` all of these are sent first.
 
 Each input has a seed, from the first on. A difference is printed with its seed and what is due, and the exit status is 1. `--seed N
 --count 1` makes that one input again. Without `--seed` the first seed is drawn from the clock, and printed.
@@ -492,7 +492,7 @@ def fixed_files():
 def compare_fixed(sender):
     """The number of files that no dice make, and what is not as it is due."""
     number, wrong = 0, []
-    for number, data in enumerate(fixed_files(), 1):
+    for number, data in enumerate(sender.fixed, 1):
         sender.store({"file": data})
         status, printed = sender.run(["survey", "file"])
         due = difference(["survey", "file"], {"file": data}, status, printed.decode("latin-1"))
@@ -507,7 +507,7 @@ class Sender:
     """Runs the program over files of one folder."""
 
     def __init__(self, program, folder):
-        self.program, self.folder = os.path.abspath(program), folder
+        self.program, self.folder, self.fixed = os.path.abspath(program), folder, list(fixed_files())
 
     def store(self, stored):
         for entry in os.scandir(self.folder):
@@ -538,6 +538,8 @@ def random_request(rng, network, ports):
 
 def random_input(rng, sender):
     """The words, and the contents by name."""
+    if rng.random() < 0.2:
+        return ["survey", "file"], {"file": rng.choice(sender.fixed)}
     domains, ports = networks.random_network(rng)
     network = networks.Network(domains)
     names = [f"{number}.json" for number in range(len(domains))]
