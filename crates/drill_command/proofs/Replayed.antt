@@ -1,5 +1,5 @@
 -- A replay of the rules of an exact answer.
-use Rattle.std.proofs.Common.{◌≡◌, ⊥, sym, ap, subst, refl, length}
+use Rattle.std.proofs.Common.{◌≡◌, sym, ap, subst, refl, length}
 use Rattle.circuit_spec.specs.declared.hops.Outcome.{Outcome}
 use Rattle.circuit_spec.specs.declared.hops.Outcome.TheVariants.{Found, NoWalk, Past, Long}
 use Rattle.circuit_spec.specs.Network.{Topology}
