@@ -26,25 +26,16 @@ PICTURE = TOP / "docs" / "crates.svg"
 LAYERS = {
     "base": "ml_base walk_grammar io_edges label_sets label_atoms alias_merge",
     "machine": "adapt_machine segment_grammar pair_check root_order deriv_arena knuth_search route_unfold repeat_flags machine_bench",
-    "network": "nml_elements circuit_spec topo_gen nml_inventory kept_table layer_check open_places packet_replay machine_build"
-               " machine_lift table_replay",
-    "meaning": "verdict hop_check potential_check cert_check rule_replay potential_lift finder_core",
-    "text and commands": "domain_config answer_text document_bench command_words replies file_words find_command check_command"
-                         " drill_command survey_command finder_cli run_rows finder",
+    "network": "nml_elements circuit_spec place_names device_rules topo_gen nml_inventory kept_table layer_check open_places"
+               " packet_replay machine_build machine_lift table_replay",
+    "meaning": "answer_spec potential_lift finder_core",
+    "text": "line_text domain_config answer_text document_bench",
+    "judging": "verdict hop_check potential_check cert_check rule_replay",
+    "commands": "command_words replies file_words find_command check_command drill_command survey_command finder_cli run_rows finder",
 }
 
-# What stands on a later layer, and why. All of it comes from two crates that hold a meaning beside its text: domain_config, with the
-# rules of devices, and answer_text, with answers and certificates.
-KNOWN = {
-    ("table_replay", "domain_config"): "it forwards by rules, and a rule is defined beside its line",
-    ("verdict", "answer_text"): "certificates are defined beside the document, and a verdict names a line of it",
-    ("hop_check", "answer_text"): "it judges the hops of an answer, and answers are defined beside the document",
-    ("potential_check", "answer_text"): "it judges the potentials of an answer, which are defined beside their lines",
-    ("cert_check", "answer_text"): "it reads the document that it judges",
-    ("rule_replay", "answer_text"): "it reads the document whose rules it takes",
-    ("potential_lift", "answer_text"): "it makes the potentials of an answer, which are defined beside their lines",
-    ("finder_core", "answer_text"): "it makes an answer, and shows that it can be written as a document",
-}
+# What stands on a later layer, and why.
+KNOWN: dict[tuple[str, str], str] = {}
 
 Edges = dict[str, list[str]]
 
@@ -148,7 +139,8 @@ def text_of(house: House, known: dict[tuple[str, str], str]) -> str:
     lines = []
     for layer, crates in house.layers.items():
         lines += [layer, *(f"    {' '.join([f'{name}:', *house.direct[name]]).rstrip(':')}" for name in crates)]
-    lines += ["on a later layer", *(f"    {name} on {it}: {why}" for (name, it), why in known.items())]
+    if known:
+        lines += ["on a later layer", *(f"    {name} on {it}: {why}" for (name, it), why in known.items())]
     top = list(house.direct)[-1]
     chain = chain_to(top, house.direct)
     return "\n".join([*lines, f"the longest chain to {top}, {len(chain)} crates", f"    {' '.join(chain)}"])

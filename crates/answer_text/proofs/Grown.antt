@@ -4,14 +4,14 @@ use Rattle.std.specs.Prelude.{slice_get}
 use Rattle.std.proofs.lemmas.Option.{slice_get_read}
 use Rattle.std.proofs.lemmas.List.{length-append}
 use Rattle.std.proofs.Math.Seq.{get_or-append_seam}
-use Rattle.domain_config.specs.declared.reading.Refused.{Refused}
-use Rattle.domain_config.specs.Cursor.{Gives}
-use Rattle.domain_config.specs.Lines.{Line}
-use Rattle.domain_config.specs.declared.rules.Rule.{Rule}
-use Rattle.domain_config.specs.Rules.{At, Start, In}
+use Rattle.line_text.specs.declared.reading.Refused.{Refused}
+use Rattle.line_text.specs.Cursor.{Gives}
+use Rattle.line_text.specs.Lines.{Line}
+use Rattle.device_rules.specs.declared.rules.Rule.{Rule}
+use Rattle.device_rules.specs.Rules.{At, Start, In}
 use Rattle.domain_config.specs.Saying.{rule_added}
-use Rattle.answer_text.specs.declared.answer.Answer.{Answer}
-use Rattle.answer_text.specs.declared.answer.PotLine.{PotLine}
+use Rattle.answer_spec.specs.declared.answer.Answer.{Answer}
+use Rattle.answer_spec.specs.declared.answer.PotLine.{PotLine}
 use Rattle.answer_text.specs.declared.body.BodyLine.{BodyLine}
 use Rattle.answer_text.specs.declared.reader.Stage.{Stage}
 use Rattle.answer_text.specs.declared.reader.Stage.TheVariants as seen

@@ -3,12 +3,12 @@ use Rattle.std.proofs.Common.{◌≡◌, ◌∙◌, sym, ap, subst, ℕ, List, [
 use Rattle.std.specs.Prelude.{nat_eq}
 use Rattle.std.proofs.lemmas.Bool.{eqb-true}
 use Rattle.std.proofs.lemmas.Slice.Eq.{bytes_eq-Decides}
-use Rattle.domain_config.specs.declared.reading.Refused.{Refused}
-use Rattle.domain_config.specs.Fields.{Word, kept_if}
-use Rattle.domain_config.specs.Cursor.{Gives}
+use Rattle.line_text.specs.declared.reading.Refused.{Refused}
+use Rattle.line_text.specs.Fields.{Word, kept_if}
+use Rattle.line_text.specs.Cursor.{Gives}
 use Rattle.answer_text.specs.Reading.{behind, HopWords, follow_hop, Phase, or_else, where_ended, Step}
-use Rattle.domain_config.specs.declared.rules.Rule.{Rule}
-use Rattle.answer_text.specs.declared.answer.Answer.{Answer}
+use Rattle.device_rules.specs.declared.rules.Rule.{Rule}
+use Rattle.answer_spec.specs.declared.answer.Answer.{Answer}
 use Rattle.answer_text.specs.declared.fields.HopWords as fields
 use Rattle.answer_text.specs.Views.{hop_view, hop_added}
 

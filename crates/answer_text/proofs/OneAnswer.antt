@@ -1,10 +1,11 @@
 -- A text spells one answer.
 use Rattle.std.proofs.Common.{◌≡◌, ◌∙◌, ap, Result, Ok, ℕ}
-use Rattle.domain_config.specs.Lines.{text_of}
-use Rattle.domain_config.proofs.LineLaws.{text_read}
-use Rattle.answer_text.specs.declared.answer.Answer.{Answer}
+use Rattle.line_text.specs.Lines.{text_of}
+use Rattle.line_text.proofs.LineLaws.{text_read}
+use Rattle.answer_spec.specs.declared.answer.Answer.{Answer}
 use Rattle.answer_text.specs.Document.{answer_in}
-use Rattle.answer_text.specs.Spelling.{IsWellFormed, lines_of}
+use Rattle.answer_spec.specs.WellFormed.{IsWellFormed}
+use Rattle.answer_text.specs.Spelling.{lines_of}
 use Rattle.answer_text.specs.Reading.{Nothing, answer_step, answer_end}
 use Rattle.answer_text.proofs.AnswerLaws.{document_only, lines_whole}
 

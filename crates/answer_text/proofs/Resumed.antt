@@ -1,16 +1,17 @@
 -- A document that is read line by line, from its front.
 use Rattle.std.proofs.Common.{◌≡◌, ◌∙◌, refl, sym, ap, subst, ℕ, suc, ◌+◌, List, [], ◌∷◌, Some, Result, Ok, Err, add-one}
-use Rattle.domain_config.specs.Lines.{pieces, goes_on, closing, adding, text_of}
-use Rattle.domain_config.proofs.LineLaws.{read_text, text_read, refused_first}
-use Rattle.domain_config.proofs.Onward.{line_read, taken_on, misfit_on, closed_on}
+use Rattle.line_text.specs.Lines.{pieces, goes_on, closing, adding, text_of}
+use Rattle.line_text.proofs.LineLaws.{read_text, text_read, refused_first}
+use Rattle.line_text.proofs.Onward.{line_read, taken_on, misfit_on, closed_on}
 use Rattle.std.specs.Prelude.{IfOk, IfErr}
-use Rattle.answer_text.specs.declared.answer.Answer.{Answer}
-use Rattle.answer_text.specs.declared.answer.TextFault.{TextFault}
-use Rattle.answer_text.specs.declared.answer.TextFault.TheVariants as fault
+use Rattle.answer_spec.specs.declared.answer.Answer.{Answer}
+use Rattle.answer_text.specs.declared.fault.TextFault.{TextFault}
+use Rattle.answer_text.specs.declared.fault.TextFault.TheVariants as fault
 use Rattle.answer_text.specs.declared.reader.BodyReader.{BodyReader}
 use Rattle.answer_text.specs.Document.{answer_in}
 use Rattle.answer_text.specs.Reading.{Phase, Nothing, Step, answer_step, answer_end, same_answer}
-use Rattle.answer_text.specs.Spelling.{IsWellFormed, IsDocument, lines_of}
+use Rattle.answer_spec.specs.WellFormed.{IsWellFormed}
+use Rattle.answer_text.specs.Spelling.{IsDocument, lines_of}
 use Rattle.answer_text.specs.Taking.{said_from, phase_of, behind_answer, Takes, TakesAt, AnswersAs, NamesFirstMisfit, Returns}
 use Rattle.answer_text.proofs.AnswerLaws.{answer_grammar, document_found, document_only, lines_whole}
 

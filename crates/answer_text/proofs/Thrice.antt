@@ -1,10 +1,10 @@
 -- Rows of three parts.
 use Rattle.std.proofs.Common.{◌≡◌, List, Option, Some}
-use Rattle.domain_config.specs.declared.reading.Refused.{Refused}
-use Rattle.domain_config.specs.Fields.{Word, and_of}
-use Rattle.domain_config.specs.Cursor.{Fails}
-use Rattle.domain_config.specs.Taking.{take_word}
-use Rattle.domain_config.proofs.Taking.{fails_later, and_both}
+use Rattle.line_text.specs.declared.reading.Refused.{Refused}
+use Rattle.line_text.specs.Fields.{Word, and_of}
+use Rattle.line_text.specs.Cursor.{Fails}
+use Rattle.line_text.specs.Taking.{take_word}
+use Rattle.line_text.proofs.Taking.{fails_later, and_both}
 
 -- the third part does not fit
 pub fails_third : {A B C : Type 0} (first : Word → Option A) (second : Word → Option B) (third : List Word → Option C) (ws vs us : List Word) (a : A) (b : B) (e : Refused)

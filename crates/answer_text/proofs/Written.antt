@@ -1,25 +1,23 @@
 -- A document that is written piece by piece.
-use Rattle.std.proofs.Common.{◌≡◌, ◌∙◌, sym, ap, subst, refl, ℕ, suc, ◌+◌, ◌≤◌, ◌<◌, List, [], ◌∷◌, ◌++◌, length, drop, get_or, map, Option, None, arith, add-one}
+use Rattle.std.proofs.Common.{◌≡◌, ◌∙◌, sym, ap, subst, ℕ, ◌+◌, ◌≤◌, ◌<◌, List, [], ◌∷◌, ◌++◌, length, drop, get_or, map, Option, None, arith, add-one}
 use Rattle.std.specs.Prelude.{codes}
 use Rattle.std.proofs.lemmas.List.{drop_all, drop_more}
 use Rattle.circuit_spec.specs.declared.hops.Hop.{Hop}
 use Rattle.circuit_spec.specs.declared.hops.Outcome.{Outcome}
 use Rattle.circuit_spec.specs.declared.hops.Outcome.TheVariants as outcome
-use Rattle.domain_config.specs.declared.rules.Rule.{Rule}
-use Rattle.domain_config.specs.Lines.{text_of}
-use Rattle.domain_config.specs.Rules.{Start, rule_lines, AreLaidOut}
-use Rattle.domain_config.proofs.Writes.{at_item, lines_join}
-use Rattle.answer_text.specs.declared.answer.Answer.{Answer}
-use Rattle.answer_text.specs.declared.answer.PotLine.{PotLine}
-use Rattle.answer_text.specs.Spelling.{heading_lines, body_lines, hop_line, hop_lines, pot_line, lines_of, AreHops, ArePots, IsBody, IsWellFormed}
+use Rattle.device_rules.specs.declared.rules.Rule.{Rule}
+use Rattle.line_text.specs.Lines.{text_of}
+use Rattle.device_rules.specs.Rules.{Start, AreLaidOut}
+use Rattle.domain_config.specs.Rules.{rule_lines}
+use Rattle.device_rules.proofs.Items.{at_item}
+use Rattle.line_text.proofs.Writes.{lines_join}
+use Rattle.answer_spec.specs.declared.answer.Answer.{Answer}
+use Rattle.answer_spec.specs.declared.answer.PotLine.{PotLine}
+use Rattle.answer_text.specs.Spelling.{heading_lines, body_lines, hop_line, hop_lines, pot_line, lines_of}
+use Rattle.answer_spec.specs.WellFormed.{AreHops, ArePots, IsBody, IsWellFormed}
+use Rattle.answer_spec.proofs.Lengths.{same_length}
 
 -- ---- hops
-
-pub same_length : (n : ℕ) (hs : List Hop) (flags : List (Option ℕ)) → AreHops n hs flags → length hs ≡ length flags
-same_length n [] [] h = refl
-same_length n [] (flag ∷ flags) h = absurd h
-same_length n (x ∷ hs) [] h = absurd h
-same_length n (x ∷ hs) (flag ∷ flags) h = ap suc (same_length (suc n) hs flags h.1)
 
 pub has_flag : (hs : List Hop) (flags : List (Option ℕ)) (i : ℕ) → AreHops 1 hs flags → i < length hs → i < length flags
 has_flag hs flags i h lt = omega (arith, same_length 1 hs flags h)

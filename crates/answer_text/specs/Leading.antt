@@ -1,8 +1,8 @@
 -- Where a line of a document's body leads, and what it adds.
 use Rattle.std.specs.Prelude.{Some}
-use Rattle.domain_config.specs.Rules.{At}
+use Rattle.device_rules.specs.Rules.{At}
 use Rattle.domain_config.specs.Saying.{step_of}
-use Rattle.answer_text.specs.declared.answer.Answer.{Answer}
+use Rattle.answer_spec.specs.declared.answer.Answer.{Answer}
 use Rattle.answer_text.specs.declared.body.BodyLine.{BodyLine}
 use Rattle.answer_text.specs.declared.body.BodyLine.TheVariants as seen
 use Rattle.answer_text.specs.Reading.{Phase, Rules, Pots, Ended, add_rules, add_pot, same_answer}

@@ -1,15 +1,15 @@
 -- What was read of a document, and what is read behind it.
 use Rattle.std.specs.Prelude.{◌≡◌, ℕ, suc, ◌-◌, List, length, ◌++◌, Option, Some, None, Result, Ok, Err, slice_get}
-use Rattle.domain_config.specs.declared.reading.Refused.{Refused}
-use Rattle.domain_config.specs.declared.reading.Refused.TheVariants as refused
-use Rattle.domain_config.specs.Cursor.{Fails}
-use Rattle.domain_config.specs.Lines.{pieces, read_from, IsFirstMisfit}
-use Rattle.domain_config.specs.Rules.{At, Start}
+use Rattle.line_text.specs.declared.reading.Refused.{Refused}
+use Rattle.line_text.specs.declared.reading.Refused.TheVariants as refused
+use Rattle.line_text.specs.Cursor.{Fails}
+use Rattle.line_text.specs.Lines.{pieces, read_from, IsFirstMisfit}
+use Rattle.device_rules.specs.Rules.{At, Start}
 use Rattle.domain_config.specs.Saying.{at_of}
-use Rattle.answer_text.specs.declared.answer.Answer.{Answer}
-use Rattle.answer_text.specs.declared.answer.PotLine.{PotLine}
-use Rattle.answer_text.specs.declared.answer.TextFault.{TextFault}
-use Rattle.answer_text.specs.declared.answer.TextFault.TheVariants as fault
+use Rattle.answer_spec.specs.declared.answer.Answer.{Answer}
+use Rattle.answer_spec.specs.declared.answer.PotLine.{PotLine}
+use Rattle.answer_text.specs.declared.fault.TextFault.{TextFault}
+use Rattle.answer_text.specs.declared.fault.TextFault.TheVariants as fault
 use Rattle.answer_text.specs.declared.reader.Stage.{Stage}
 use Rattle.answer_text.specs.declared.reader.Stage.TheVariants as seen
 use Rattle.answer_text.specs.declared.reader.BodyReader.{BodyReader}

@@ -2,14 +2,14 @@
 use Rattle.std.specs.Prelude.{ℕ, suc, List, Option, None, option_map}
 use Rattle.ml_base.specs.declared.weight.Weight.{Weight}
 use Rattle.circuit_spec.specs.declared.hops.PlaceName.{PlaceName}
-use Rattle.domain_config.specs.Fields.{Word, And, Done, done, and_of, id_of, tag_of, done_of}
+use Rattle.line_text.specs.Fields.{Word, And, Done, done, and_of, id_of, tag_of, done_of, wish_of}
 use Rattle.ml_base.specs.declared.numbers.Wish.{Wish}
 use Rattle.circuit_spec.specs.declared.hops.Request.{Request}
 use Rattle.circuit_spec.specs.declared.hops.Outcome.{Outcome}
 use Rattle.circuit_spec.specs.declared.hops.Outcome.TheVariants as outcome
 use Rattle.answer_text.specs.declared.fields.HopWords as fields
-use Rattle.answer_text.specs.Reading.{Numbers, TopWords, SegWords, HopWords, RequestWords, flag_of, wish_of, Phase, Hops, Pots, Step, or_else, found_of, unfound_of, add_hop, add_outcome}
-use Rattle.answer_text.specs.declared.answer.Answer.{Answer}
+use Rattle.answer_text.specs.Reading.{Numbers, TopWords, SegWords, HopWords, RequestWords, flag_of, Phase, Hops, Pots, Step, or_else, found_of, unfound_of, add_hop, add_outcome}
+use Rattle.answer_spec.specs.declared.answer.Answer.{Answer}
 
 abbrev pub numbers_view : ℕ × ℕ → Numbers
 numbers_view x = record { head = x.0; rest = record { head = x.1; rest = done } }

@@ -1,15 +1,17 @@
 // What one line says behind the heading of a document.
-ghost use Rattle.std.specs.Prelude.{◌≡◌, option_copied, suc};
-ghost use Rattle.domain_config.specs.Cursor.{Gives};
-ghost use Rattle.domain_config.specs.Rules.{At, Start, rules_end};
+ghost use Rattle.std.specs.Prelude.{option_copied, suc};
+ghost use Rattle.line_text.specs.Cursor.{Gives};
+ghost use Rattle.device_rules.specs.Rules.{At, Start};
+ghost use Rattle.domain_config.specs.Rules.{rules_end};
 ghost use Rattle.domain_config.specs.Saying.{at_of};
 ghost use Rattle.answer_text.specs.Reading.{end_step, hops_step, pots_step, rules_step, where_ended};
 ghost use Rattle.answer_text.specs.Leading.{line_step};
 
-use crate::PotLine;
 use crate::fields::HopWords;
 use crate::steps::{hop_line, pot_line};
-use domain_config::{Before, Refused, Said, rule_line};
+use answer_spec::PotLine;
+use domain_config::{Before, Said, rule_line};
+use line_text::Refused;
 use std::alloc::Global;
 
 /// What a line says.

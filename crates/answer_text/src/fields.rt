@@ -1,41 +1,15 @@
 // The words of a document's lines.
 ghost use Rattle.std.specs.Prelude.{◌≡◌, ◌^◌, codes, option_copied};
-ghost use Rattle.domain_config.specs.Fields.{number_of, entry_of, id_of, tag_of, and_of, done_of, done};
-ghost use Rattle.domain_config.specs.Cursor.{parts_of, Gives};
-ghost use Rattle.domain_config.specs.Taking.{take_word};
-ghost use Rattle.answer_text.specs.Reading.{behind, wish_of, kinds, numbers_of, past_of, weight_of, request_words_of, hop_words_of, flag_of, top_words_of, seg_words_of};
+ghost use Rattle.line_text.specs.Fields.{number_of, entry_of, and_of, done_of, done};
+ghost use Rattle.line_text.specs.Cursor.{parts_of, Gives};
+ghost use Rattle.line_text.specs.Taking.{take_word};
+ghost use Rattle.answer_text.specs.Reading.{behind, kinds, numbers_of, past_of, weight_of, request_words_of, hop_words_of, flag_of, top_words_of, seg_words_of};
 ghost use Rattle.answer_text.specs.Views.{numbers_view, one_view, end_view, to_view, from_view, element_view, hop_view, top_view, seg_view, half_view, request_view, end_words_of, to_words_of, from_words_of, element_words_of, half_words_of};
 
 use circuit_spec::{Hop, HopKind, PlaceName, Request};
-use domain_config::{Refused, next_word, number, take_end, take_id, take_number, take_tag};
+use line_text::{Refused, next_word, take_end, take_id, take_number, take_tag, take_wish};
 use ml_base::{Id, Weight, Wish};
 use std::alloc::Global;
-
-fn read_wish(word: &[u8]) -> Option<Wish>
-    ensures { result ≡ wish_of word.now }
-{
-    match number(word, 4_294_967_295) {
-        Some(label) => Some(Wish::Value(label as u32)),
-        None => {
-            if word == b"any".as_slice() {
-                return Some(Wish::Any);
-            }
-            None
-        }
-    }
-}
-
-fn take_wish(rest: Option<&[u8]>) -> Result<(Wish, Option<&[u8]>), Refused>
-    ensures { Gives (λ x. (x.0, parts_of 32 (option_copied x.1))) result (take_word wish_of (parts_of 32 (option_copied rest.entry))) }
-{
-    let Some((word, rest)) = next_word(rest) else {
-        return Err(Refused::Misfit);
-    };
-    match read_wish(word) {
-        Some(wish) => Ok((wish, rest)),
-        None => Err(Refused::Misfit),
-    }
-}
 
 fn read_kind(word: &[u8]) -> Option<HopKind>
     ensures { result ≡ entry_of kinds word.now }
@@ -71,7 +45,7 @@ fn take_kind(rest: Option<&[u8]>) -> Result<(HopKind, Option<&[u8]>), Refused>
 }
 
 // A cost, and a number of hops of at most 2^40.
-#[tactic(auto, using(domain_config::proofs::Taking::fails_first, domain_config::proofs::Taking::fails_later, domain_config::proofs::Taking::and_both))]
+#[tactic(auto, using(line_text::proofs::Taking::fails_first, line_text::proofs::Taking::fails_later, line_text::proofs::Taking::and_both))]
 pub(crate) fn numbers(rest: Option<&[u8]>) -> Result<(u64, u64), Refused>
     ensures { Gives numbers_view result (numbers_of (parts_of 32 (option_copied rest.entry))) }
 {
@@ -118,7 +92,7 @@ fn read_weight(rest: Option<&[u8]>) -> Result<Weight, Refused>
     }
 }
 
-#[tactic(auto, using(domain_config::proofs::Taking::fails_first, domain_config::proofs::Taking::fails_later, domain_config::proofs::Taking::and_both))]
+#[tactic(auto, using(line_text::proofs::Taking::fails_first, line_text::proofs::Taking::fails_later, line_text::proofs::Taking::and_both))]
 fn one_number(rest: Option<&[u8]>) -> Result<u64, Refused>
     ensures { Gives one_view result (and_of (number_of (2 ^ 64)) done_of (parts_of 32 (option_copied rest.entry))) }
 {
@@ -152,7 +126,7 @@ fn read_flag(rest: Option<&[u8]>) -> Result<Option<u64>, Refused>
     }
 }
 
-#[tactic(auto, using(domain_config::proofs::Taking::fails_first, domain_config::proofs::Taking::fails_later, domain_config::proofs::Taking::and_both))]
+#[tactic(auto, using(line_text::proofs::Taking::fails_first, line_text::proofs::Taking::fails_later, line_text::proofs::Taking::and_both))]
 fn end_words(alloc: Global, rest: Option<&[u8]>) -> Result<(Id, Option<u64>), Refused>
     ensures { Gives end_view result (end_words_of (parts_of 32 (option_copied rest.entry))) }
 {
@@ -161,7 +135,7 @@ fn end_words(alloc: Global, rest: Option<&[u8]>) -> Result<(Id, Option<u64>), Re
     Ok((domain, flag))
 }
 
-#[tactic(auto, using(domain_config::proofs::Taking::fails_first, domain_config::proofs::Taking::fails_later, domain_config::proofs::Taking::and_both))]
+#[tactic(auto, using(line_text::proofs::Taking::fails_first, line_text::proofs::Taking::fails_later, line_text::proofs::Taking::and_both))]
 fn to_words(alloc: Global, rest: Option<&[u8]>) -> Result<(PlaceName, (Id, Option<u64>)), Refused>
     ensures { Gives to_view result (to_words_of (parts_of 32 (option_copied rest.entry))) }
 {
@@ -171,7 +145,7 @@ fn to_words(alloc: Global, rest: Option<&[u8]>) -> Result<(PlaceName, (Id, Optio
     Ok((PlaceName { class, label }, end))
 }
 
-#[tactic(auto, using(domain_config::proofs::Taking::fails_first, domain_config::proofs::Taking::fails_later, domain_config::proofs::Taking::and_both))]
+#[tactic(auto, using(line_text::proofs::Taking::fails_first, line_text::proofs::Taking::fails_later, line_text::proofs::Taking::and_both))]
 pub(crate) fn top_words(alloc: Global, rest: Option<&[u8]>) -> Result<(PlaceName, Weight), Refused>
     ensures { Gives top_view result (top_words_of (parts_of 32 (option_copied rest.entry))) }
 {
@@ -181,7 +155,7 @@ pub(crate) fn top_words(alloc: Global, rest: Option<&[u8]>) -> Result<(PlaceName
     Ok((PlaceName { class, label }, weight))
 }
 
-#[tactic(auto, using(domain_config::proofs::Taking::fails_first, domain_config::proofs::Taking::fails_later, domain_config::proofs::Taking::and_both))]
+#[tactic(auto, using(line_text::proofs::Taking::fails_first, line_text::proofs::Taking::fails_later, line_text::proofs::Taking::and_both))]
 fn from_words(
     alloc: Global,
     rest: Option<&[u8]>,
@@ -194,7 +168,7 @@ fn from_words(
     Ok((PlaceName { class, label }, to))
 }
 
-#[tactic(auto, using(domain_config::proofs::Taking::fails_first, domain_config::proofs::Taking::fails_later, domain_config::proofs::Taking::and_both))]
+#[tactic(auto, using(line_text::proofs::Taking::fails_first, line_text::proofs::Taking::fails_later, line_text::proofs::Taking::and_both))]
 fn element_words(
     alloc: Global,
     rest: Option<&[u8]>,
@@ -214,7 +188,7 @@ pub(crate) struct HopWords {
     pub flag: Option<u64>,
 }
 
-#[tactic(auto, using(domain_config::proofs::Taking::fails_first, domain_config::proofs::Taking::fails_later, domain_config::proofs::Taking::and_both))]
+#[tactic(auto, using(line_text::proofs::Taking::fails_first, line_text::proofs::Taking::fails_later, line_text::proofs::Taking::and_both))]
 pub(crate) fn hop_words(alloc: Global, rest: Option<&[u8]>) -> Result<HopWords, Refused>
     ensures { Gives hop_view result (hop_words_of (parts_of 32 (option_copied rest.entry))) }
 {
@@ -236,7 +210,7 @@ pub(crate) fn hop_words(alloc: Global, rest: Option<&[u8]>) -> Result<HopWords, 
     })
 }
 
-#[tactic(auto, using(domain_config::proofs::Taking::fails_first, domain_config::proofs::Taking::fails_later, domain_config::proofs::Taking::and_both))]
+#[tactic(auto, using(line_text::proofs::Taking::fails_first, line_text::proofs::Taking::fails_later, line_text::proofs::Taking::and_both))]
 pub(crate) fn seg_words(
     alloc: Global,
     rest: Option<&[u8]>,
@@ -249,7 +223,7 @@ pub(crate) fn seg_words(
     Ok((PlaceName { class, label }, top))
 }
 
-#[tactic(auto, using(domain_config::proofs::Taking::fails_first, domain_config::proofs::Taking::fails_later, domain_config::proofs::Taking::and_both))]
+#[tactic(auto, using(line_text::proofs::Taking::fails_first, line_text::proofs::Taking::fails_later, line_text::proofs::Taking::and_both))]
 fn end_of_request(alloc: Global, rest: Option<&[u8]>) -> Result<(Id, Wish), Refused>
     ensures { Gives half_view result (half_words_of (parts_of 32 (option_copied rest.entry))) }
 {
@@ -259,7 +233,7 @@ fn end_of_request(alloc: Global, rest: Option<&[u8]>) -> Result<(Id, Wish), Refu
     Ok((to, wish))
 }
 
-#[tactic(auto, using(domain_config::proofs::Taking::fails_first, domain_config::proofs::Taking::fails_later, domain_config::proofs::Taking::and_both))]
+#[tactic(auto, using(line_text::proofs::Taking::fails_first, line_text::proofs::Taking::fails_later, line_text::proofs::Taking::and_both))]
 pub(crate) fn request_words(alloc: Global, rest: Option<&[u8]>) -> Result<Request, Refused>
     ensures { Gives request_view result (request_words_of (parts_of 32 (option_copied rest.entry))) }
 {

@@ -1,13 +1,13 @@
 // Each line of a document, made in a fixed buffer.
 ghost use Rattle.std.specs.Prelude.{◌≡◌, ◌+◌, ◌≤◌, [], ◌∷◌, ◌++◌, length, decimal};
-ghost use Rattle.domain_config.specs.Fields.{spaced};
-ghost use Rattle.domain_config.specs.Writing.{spaced_each};
+ghost use Rattle.line_text.specs.Fields.{spaced};
+ghost use Rattle.line_text.specs.Writing.{spaced_each};
 ghost use Rattle.answer_text.specs.Spelling.{wish, kind_word, weight_words, again_words, request_line, outcome_line, hop_line, pot_words, pot_line};
 
-use crate::{PotLine, RootName};
+use answer_spec::{PotLine, RootName};
 use circuit_spec::{Hop, HopKind, Outcome, PlaceName, Request};
-use domain_config::{push_id, push_number, push_place, push_word};
 use io_edges::Line;
+use line_text::{push_id, push_number, push_place, push_word};
 use ml_base::{Weight, Wish};
 
 fn push_wish(line: &mut Line, wish: Wish)

@@ -1,10 +1,10 @@
 // A document's body, read line by line.
-ghost use Rattle.std.specs.Prelude.{◌≡◌, List, [], ◌∷◌, Some};
-ghost use Rattle.domain_config.specs.Fields.{kept_if};
-ghost use Rattle.domain_config.specs.Rules.{In};
-ghost use Rattle.answer_text.specs.declared.answer.Answer.{Answer};
-ghost use Rattle.answer_text.specs.declared.answer.PotLine.{PotLine};
-ghost use Rattle.domain_config.specs.Cursor.{Gives};
+ghost use Rattle.std.specs.Prelude.{◌≡◌, List, [], Some};
+ghost use Rattle.line_text.specs.Fields.{kept_if};
+ghost use Rattle.device_rules.specs.Rules.{In};
+ghost use Rattle.answer_spec.specs.declared.answer.Answer.{Answer};
+ghost use Rattle.answer_spec.specs.declared.answer.PotLine.{PotLine};
+ghost use Rattle.line_text.specs.Cursor.{Gives};
 ghost use Rattle.domain_config.specs.Saying.{rule_added};
 ghost use Rattle.answer_text.specs.Reading.{answer_step, answer_end, blank, Rules, Ended, Pots, add_pot, add_rules, add_request, same_answer};
 ghost use Rattle.answer_text.specs.Views.{hop_added, outcome_added};
@@ -13,9 +13,11 @@ ghost use Rattle.answer_text.specs.Taking.{at_in, phase_at, phase_of, behind_ans
 
 use crate::body::{BodyLine, hops_said, pots_said, rules_said};
 use crate::fields::HopWords;
-use crate::{Answer, PotLine};
+use answer_spec::{Answer, PotLine};
 use circuit_spec::{Outcome, Request};
-use domain_config::{Before, Refused, Rule, Said};
+use device_rules::Rule;
+use domain_config::{Before, Said};
+use line_text::Refused;
 use ml_base::{Id, Items};
 use std::alloc::Global;
 

@@ -1,17 +1,19 @@
 // A document, read from its front.
 ghost use Rattle.std.specs.Prelude.{◌≡◌, IfOk, IfErr};
-ghost use Rattle.domain_config.specs.Lines.{text_of, adding, closing};
-ghost use Rattle.answer_text.specs.declared.answer.Answer.{Answer};
+ghost use Rattle.line_text.specs.Lines.{text_of, adding, closing};
+ghost use Rattle.answer_spec.specs.declared.answer.Answer.{Answer};
 ghost use Rattle.answer_text.specs.Document.{answer_in};
 ghost use Rattle.answer_text.specs.Reading.{Version, Asked, add_request, answer_step, answer_end};
-ghost use Rattle.answer_text.specs.Spelling.{IsWellFormed, lines_of};
+ghost use Rattle.answer_spec.specs.WellFormed.{IsWellFormed};
+ghost use Rattle.answer_text.specs.Spelling.{lines_of};
 ghost use Rattle.answer_text.specs.Taking.{said_from, AnswersAs, TakesAt, fault_of, NamesFirstMisfit, Returns, phase_of, behind_answer};
 
+use crate::fault::TextFault;
 use crate::reader::BodyReader;
 use crate::steps::{is_version, outcome_line, request_line};
-use crate::{Answer, TextFault};
+use answer_spec::Answer;
 use circuit_spec::Request;
-use domain_config::{Refused, next_line};
+use line_text::{Refused, next_line};
 use std::alloc::Global;
 
 fn fault_at(number: u64, refused: Refused) -> TextFault

@@ -1,15 +1,14 @@
 // What one line of a document says.
 ghost use Rattle.std.specs.Prelude.{◌≡◌, codes, option_copied, option_map, Some, suc, nat_eq};
-ghost use Rattle.domain_config.specs.Fields.{words_in, kept_if};
-ghost use Rattle.domain_config.specs.Cursor.{parts_of, Gives};
+ghost use Rattle.line_text.specs.Fields.{words_in, kept_if};
+ghost use Rattle.line_text.specs.Cursor.{parts_of, Gives};
 ghost use Rattle.answer_text.specs.Reading.{behind, top_of, seg_of, pot_of, follow_pot, Pots, add_pot, top_words_of, seg_words_of, hop_words_of, request_words_of, follow_hop, outcome_step, version_step, Version, same_answer};
 ghost use Rattle.answer_text.specs.Views.{hop_view, request_view, hop_added, outcome_added, outcome_rest};
 
 use crate::fields::{HopWords, hop_words, numbers, request_words, seg_words, top_words};
-use crate::order::follows;
-use crate::{PotLine, RootName};
+use answer_spec::{PotLine, RootName, follows};
 use circuit_spec::{Outcome, Request};
-use domain_config::{Refused, cut, next_word, take_end};
+use line_text::{Refused, cut, next_word, take_end};
 use std::alloc::Global;
 
 pub(crate) fn request_line(alloc: Global, line: &[u8]) -> Result<Request, Refused>

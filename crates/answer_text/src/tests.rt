@@ -1,4 +1,5 @@
-use crate::{TextFault, read, well_formed, write};
+use crate::{TextFault, read, write};
+use answer_spec::well_formed;
 use circuit_spec::Outcome;
 use io_edges::MemSink;
 use ml_base::NoMemory;

@@ -1,18 +1,20 @@
-ghost use Rattle.std.specs.Prelude.{◌≡◌, ◌≤◌, ◌∷◌, [], ◌++◌, OnOk, OnErr, map, codes};
+ghost use Rattle.std.specs.Prelude.{◌≤◌, ◌∷◌, [], ◌++◌, OnOk, OnErr, map, codes};
 ghost use Rattle.std.specs.Io.KnownBytes.{Appends};
 ghost use Rattle.io_edges.specs.Counts.{Rose};
 ghost use Rattle.io_edges.specs.Stores.{AppendsFront};
-ghost use Rattle.domain_config.specs.Lines.{text_of};
-ghost use Rattle.answer_text.specs.Spelling.{IsWellFormed, AreHops, heading_lines, hop_line, hop_lines, pot_line, lines_of};
+ghost use Rattle.line_text.specs.Lines.{text_of};
+ghost use Rattle.answer_spec.specs.WellFormed.{IsWellFormed, AreHops};
+ghost use Rattle.answer_text.specs.Spelling.{heading_lines, hop_line, hop_lines, pot_line, lines_of};
 
 use crate::making::{
     make_end_line, make_hop_line, make_outcome_line, make_pot_line, make_request_line,
     make_version_line,
 };
-use crate::{Answer, PotLine};
+use answer_spec::{Answer, PotLine};
 use circuit_spec::Hop;
-use domain_config::{write_line, write_rules};
+use domain_config::write_rules;
 use io_edges::{Failed, Sink};
+use line_text::write_line;
 
 fn write_heading<K: Sink>(answer: &Answer, out: &mut K) -> Result<(), Failed>
     ensures ok { OnOk result (Appends (K.written out.old) (K.written out.new) (text_of (heading_lines answer.now))) }

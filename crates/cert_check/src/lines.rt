@@ -5,7 +5,7 @@ ghost use Rattle.verdict.specs.Faults.{TellsFirst, first_potential_line};
 ghost use Rattle.verdict.specs.Rules.{PassWithin};
 ghost use Rattle.potential_check.specs.Faults.{IsFirstOf};
 
-use answer_text::Answer;
+use answer_spec::Answer;
 use hop_check::count_rule_lines;
 use potential_check::PotentialFault;
 use verdict::CheckFault;

@@ -1,13 +1,13 @@
 ghost use Rattle.std.specs.Prelude.{◌≡◌, IfErr, IfOk};
 ghost use Rattle.circuit_spec.specs.Faults.{IsKnown, IsSound};
-ghost use Rattle.answer_text.specs.Bounds.{BoundsWalks};
-ghost use Rattle.answer_text.specs.Certificate.{Certificate};
-ghost use Rattle.answer_text.specs.Spelling.{IsWellFormed};
+ghost use Rattle.answer_spec.specs.Bounds.{BoundsWalks};
+ghost use Rattle.answer_spec.specs.Certificate.{Certificate};
+ghost use Rattle.answer_spec.specs.WellFormed.{IsWellFormed};
 ghost use Rattle.machine_lift.specs.Lift.{IsMachineOf};
 ghost use Rattle.verdict.specs.Faults.{TellsFirst};
 
 use crate::lines::fault_at;
-use answer_text::{Answer, certificates_bound_walks};
+use answer_spec::{Answer, certificates_bound_walks};
 use circuit_spec::{Outcome, Request};
 use hop_check::check_hops;
 use kept_table::kept_of;

@@ -3,8 +3,7 @@ use Rattle.std.specs.Prelude.{ℕ, ◌≤◌, List, [], ◌∷◌, ◌&&◌, len
 use Rattle.std.specs.List.{list_all}
 use Rattle.std.specs.Str.{bytes_eq}
 use Rattle.std.specs.declared.alloc.Global.{Global}
-use Rattle.domain_config.specs.Fields.{id_of, number_of}
-use Rattle.answer_text.specs.Reading.{wish_of}
+use Rattle.line_text.specs.Fields.{id_of, number_of, wish_of}
 use Rattle.command_words.specs.declared.words.End.{End}
 use Rattle.command_words.specs.declared.words.Command.{Command}
 use Rattle.command_words.specs.declared.words.Examined.{Examined}

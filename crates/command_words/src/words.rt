@@ -1,13 +1,12 @@
 ghost use Rattle.std.specs.Prelude.{◌≡◌, ◌<◌, ◌≤◌, ◌&&◌, string_bytes, IsTrue, IfOk, length, map, nat_le, nat_lt};
 ghost use Rattle.std.specs.List.{list_all};
-ghost use Rattle.domain_config.specs.Fields.{id_of};
-ghost use Rattle.answer_text.specs.Reading.{wish_of};
+ghost use Rattle.line_text.specs.Fields.{id_of, wish_of};
 ghost use Rattle.command_words.specs.Words.{check_of, command_of, drill_of, end_of, examined_of, files_of, find_of, levels_of, replay_of, survey_of, has_bytes, HasFewLevels, NamesFewFiles};
 ghost use Rattle.command_words.specs.Spells.{Spells};
 
 use circuit_spec::Request;
-use domain_config::Refused;
 use io_edges::Name;
+use line_text::Refused;
 use ml_base::{Id, Items, NoMemory, Wish};
 use std::alloc::Global;
 use thiserror::Error;
@@ -124,7 +123,7 @@ fn parse_files(alloc: Global, words: &[String]) -> Result<NameList, WordsFault>
 fn parse_id(alloc: Global, word: &str) -> Result<Id, WordsFault>
     ensures { Spells result (id_of word.now) }
 {
-    match domain_config::id(alloc, word.as_bytes()) {
+    match line_text::id(alloc, word.as_bytes()) {
         Ok(id) => Ok(id),
         Err(Refused::Misfit) => Err(WordsFault::Usage),
         Err(Refused::NoMemory) => Err(WordsFault::NoMemory),
@@ -134,14 +133,9 @@ fn parse_id(alloc: Global, word: &str) -> Result<Id, WordsFault>
 fn parse_wish(word: &str) -> Result<Wish, WordsFault>
     ensures { Spells result (wish_of word.now) }
 {
-    match domain_config::number(word.as_bytes(), 4_294_967_295) {
-        Some(label) => Ok(Wish::Value(label as u32)),
-        None => {
-            if word == "any" {
-                return Ok(Wish::Any);
-            }
-            Err(WordsFault::Usage)
-        }
+    match line_text::read_wish(word.as_bytes()) {
+        Some(wish) => Ok(wish),
+        None => Err(WordsFault::Usage),
     }
 }
 
@@ -231,7 +225,7 @@ fn parse_levels(word: &str) -> Result<u32, WordsFault>
     ensures some { IfOk result (λ levels. 1 ≤ levels) }
     ensures few { IfOk result (λ levels. levels ≤ 4096) }
 {
-    match domain_config::number(word.as_bytes(), 4096) {
+    match line_text::number(word.as_bytes(), 4096) {
         Some(levels) => {
             if levels < 1 {
                 return Err(WordsFault::Usage);

@@ -4,9 +4,10 @@
 #![tactic(auto)]
 
 ghost use Rattle.std.specs.Prelude.{IfOk};
-ghost use Rattle.answer_text.specs.Spelling.{IsWellFormed};
+ghost use Rattle.answer_spec.specs.WellFormed.{IsWellFormed};
 
-use answer_text::{Answer, TextFault, read, write};
+use answer_spec::Answer;
+use answer_text::{TextFault, read, write};
 use anyhow::{Result, bail};
 use io_edges::{Files, RealFiles, RealSink};
 use std::process::ExitCode;

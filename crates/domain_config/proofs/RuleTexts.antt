@@ -1,14 +1,15 @@
 -- Texts of rules: what is read, and what is refused.
 use Rattle.std.proofs.Common.{◌≡◌, ◌∙◌, ap, ℕ, List, Result, Ok, Err}
 use Rattle.std.specs.Prelude.{IfOk, IfErr}
-use Rattle.domain_config.specs.declared.rules.Rule.{Rule}
-use Rattle.domain_config.specs.declared.rules.RuleFault.{RuleFault}
-use Rattle.domain_config.specs.declared.rules.RuleFault.TheVariants as fault
-use Rattle.domain_config.specs.Lines.{text_of, IsFirstMisfit}
-use Rattle.domain_config.specs.Rules.{Start, AreLaidOut, IsLayout, rule_lines, rule_step, rules_end}
+use Rattle.device_rules.specs.declared.rules.Rule.{Rule}
+use Rattle.domain_config.specs.declared.fault.RuleFault.{RuleFault}
+use Rattle.domain_config.specs.declared.fault.RuleFault.TheVariants as fault
+use Rattle.line_text.specs.Lines.{text_of, IsFirstMisfit}
+use Rattle.device_rules.specs.Rules.{Start, AreLaidOut}
+use Rattle.domain_config.specs.Rules.{IsLayout, rule_lines, rule_step, rules_end}
 use Rattle.domain_config.specs.Layout.{rules_in}
 use Rattle.domain_config.specs.Saying.{AnswersAs, NamesFirstMisfit}
-use Rattle.domain_config.proofs.LineLaws.{read_text, refused_first}
+use Rattle.line_text.proofs.LineLaws.{read_text, refused_first}
 use Rattle.domain_config.proofs.RuleLaws.{rules_found, rules_grammar}
 
 pub laid_out_when_read : (bytes : List ℕ) (rs : List Rule) → rules_in bytes ≡ Ok rs → AreLaidOut Start rs × (bytes ≡ text_of (rule_lines Start rs))

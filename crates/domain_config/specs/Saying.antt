@@ -1,16 +1,17 @@
 -- What one line of a layout says, and how a text is answered.
 use Rattle.std.specs.Prelude.{◌≡◌, ℕ, List, ◌∷◌, ◌++◌, Option, Some, None, Result, Ok, Err}
-use Rattle.domain_config.specs.declared.rules.Rule.{Rule}
-use Rattle.domain_config.specs.declared.rules.RuleFault.{RuleFault}
-use Rattle.domain_config.specs.declared.rules.RuleFault.TheVariants as fault
+use Rattle.device_rules.specs.declared.rules.Rule.{Rule}
+use Rattle.domain_config.specs.declared.fault.RuleFault.{RuleFault}
+use Rattle.domain_config.specs.declared.fault.RuleFault.TheVariants as fault
 use Rattle.domain_config.specs.declared.steps.Before.{Before}
 use Rattle.domain_config.specs.declared.steps.Said.{Said}
 use Rattle.domain_config.specs.declared.steps.Said.TheVariants as seen
-use Rattle.domain_config.specs.declared.reading.Refused.{Refused}
+use Rattle.line_text.specs.declared.reading.Refused.{Refused}
 use Rattle.domain_config.specs.declared.reader.RuleReader.{RuleReader}
-use Rattle.domain_config.specs.Cursor.{Fails}
-use Rattle.domain_config.specs.Lines.{IsFirstMisfit}
-use Rattle.domain_config.specs.Rules.{At, Start, In, IsLayout}
+use Rattle.line_text.specs.Cursor.{Fails}
+use Rattle.line_text.specs.Lines.{IsFirstMisfit}
+use Rattle.device_rules.specs.Rules.{At, Start, In}
+use Rattle.domain_config.specs.Rules.{IsLayout}
 
 abbrev pub at_by : Option (List ℕ) → ℕ → At
 at_by None last = Start

@@ -1,26 +1,17 @@
-ghost use Rattle.std.specs.Prelude.{◌≡◌, ◌∷◌, [], ◌+◌, ◌<◌, length, IfOk, IfSome, IfErr, MatchOption};
-ghost use Rattle.domain_config.specs.Fields.{kept_if};
-ghost use Rattle.domain_config.specs.Lines.{pieces, text_of, IsFirstMisfit, adding, closing};
-ghost use Rattle.domain_config.specs.Rules.{Start, AreLaidOut, IsLayout, rule_lines, rule_step, rules_end};
+ghost use Rattle.std.specs.Prelude.{◌≡◌, [], ◌+◌, ◌<◌, IfOk, IfErr};
+ghost use Rattle.line_text.specs.Fields.{kept_if};
+ghost use Rattle.line_text.specs.Lines.{text_of, adding, closing};
+ghost use Rattle.device_rules.specs.Rules.{Start, AreLaidOut};
+ghost use Rattle.domain_config.specs.Rules.{rule_lines, rule_step, rules_end};
 ghost use Rattle.domain_config.specs.Layout.{rules_in};
 ghost use Rattle.domain_config.specs.Saying.{NamesFirstMisfit, at_of, TakesBy, TakesAt, AnswersAs, behind_rules};
 
-use crate::reading::{Refused, place_of};
-use crate::rules::{RuleFault, RuleList};
+use crate::fault::RuleFault;
 use crate::steps::{Before, Said, rule_line};
+use device_rules::RuleList;
+use line_text::{Refused, next_line};
 use ml_base::Items;
 use std::alloc::Global;
-
-/// The next line of a text and what stands behind it. None where no newline follows.
-pub fn next_line(rest: &[u8]) -> Option<(&[u8], &[u8])>
-    ensures cut { MatchOption result (pieces rest.now ≡ rest.now ∷ []) (λ next. pieces rest.now ≡ next.0.now ∷ pieces next.1.now) }
-    ensures shorter { IfSome result (λ next. length next.1.now < length rest.now) }
-{
-    match place_of(rest, b'\n') {
-        Some(at) => Some((&rest[..at], &rest[at + 1..])),
-        None => None,
-    }
-}
 
 /// Rules that are read line by line.
 #[derive(Drop)]

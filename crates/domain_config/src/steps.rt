@@ -1,17 +1,20 @@
 // What one line of a layout of rules says.
-ghost use Rattle.std.specs.Prelude.{◌≡◌, ◌+◌, IsTrue, ◌&&◌, ◌∷◌, [], option_copied, nat_lt};
-ghost use Rattle.domain_config.specs.Fields.{id_of, done_of, and_of, kept_if};
-ghost use Rattle.domain_config.specs.Rules.{Start, rules_end, agrees, is_below, kind_of, to_domain, to_rule, rule_step, rule_words_of, tags_agree};
-ghost use Rattle.domain_config.specs.Cursor.{parts_of, Gives, verb_view};
-ghost use Rattle.domain_config.specs.Taking.{words_view, domain_view};
+ghost use Rattle.std.specs.Prelude.{◌≡◌, ◌&&◌, [], option_copied, nat_lt};
+ghost use Rattle.line_text.specs.Fields.{id_of, done_of, and_of, kept_if};
+ghost use Rattle.device_rules.specs.Rules.{Start};
+ghost use Rattle.domain_config.specs.Rules.{rules_end, agrees, kind_of, to_domain, to_rule, rule_step, rule_words_of};
+ghost use Rattle.place_names.specs.Names.{is_below};
+ghost use Rattle.line_text.specs.Cursor.{parts_of, Gives};
+ghost use Rattle.domain_config.specs.Views.{verb_view, words_view};
 ghost use Rattle.domain_config.specs.Saying.{at_of, step_of};
 
 use crate::line::{RuleWords, domain_words, rule_words};
-use crate::order::id_below;
-use crate::reading::{Refused, Verb, cut};
-use crate::rules::Rule;
+use crate::verb::Verb;
 use circuit_spec::{Hop, HopKind};
+use device_rules::Rule;
+use line_text::{Refused, cut};
 use ml_base::{Id, Tag};
+use place_names::{id_below, tags_equal};
 use std::alloc::Global;
 
 /// What stands before a line: nothing, or a domain with the number of its last rule, 0 where it has none yet.
@@ -60,16 +63,6 @@ fn verb_kind(verb: Verb) -> HopKind
         Verb::Wrap => HopKind::Adapt,
         Verb::Unwrap => HopKind::Deadapt,
         Verb::Convert => HopKind::Convert,
-    }
-}
-
-fn tags_equal(from: Tag, to: Tag) -> bool
-    ensures { result ≡ Rattle.domain_config.specs.Rules.same_tags from to }
-{
-    match (from, to) {
-        (None, None) => true,
-        (Some(from), Some(to)) => from == to,
-        _ => false,
     }
 }
 

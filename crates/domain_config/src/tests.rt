@@ -1,5 +1,6 @@
-use crate::{RuleFault, read_rules, rules_of, write_rules};
+use crate::{RuleFault, read_rules, write_rules};
 use circuit_spec::{Hop, HopKind, HopList};
+use device_rules::rules_of;
 use io_edges::MemSink;
 use ml_base::{Id, Tag};
 use std::alloc::Global;

@@ -1,25 +1,17 @@
-ghost use Rattle.std.specs.Prelude.{◌≡◌, ◌≤◌, ◌∷◌, [], ◌++◌, OnOk, OnErr, option_copied};
+ghost use Rattle.std.specs.Prelude.{◌≤◌, OnOk, OnErr, option_copied};
 ghost use Rattle.std.specs.Io.KnownBytes.{Appends};
 ghost use Rattle.io_edges.specs.Counts.{Rose};
 ghost use Rattle.io_edges.specs.Stores.{AppendsFront};
-ghost use Rattle.domain_config.specs.Lines.{text_of};
-ghost use Rattle.domain_config.specs.Rules.{Start, AreLaidOut, domain_lines, rule_lines};
-ghost use Rattle.domain_config.specs.Writing.{after, lines_at};
+ghost use Rattle.line_text.specs.Lines.{text_of};
+ghost use Rattle.device_rules.specs.Rules.{Start, AreLaidOut, after};
+ghost use Rattle.domain_config.specs.Rules.{domain_lines, rule_lines};
+ghost use Rattle.domain_config.specs.Writing.{lines_at};
 
 use crate::making::{make_domain_line, make_rule_line};
-use crate::rules::{Rule, RuleList};
-use io_edges::{Failed, Line, Sink, write_all};
+use device_rules::{Rule, RuleList};
+use io_edges::{Failed, Sink};
+use line_text::write_line;
 use ml_base::Id;
-
-/// Writes one line.
-pub fn write_line<K: Sink>(line: &Line, out: &mut K) -> Result<(), Failed>
-    ensures ok { OnOk result (Appends (K.written out.old) (K.written out.new) line.now) }
-    ensures faults { K.faults out.old ≤ K.faults out.new }
-    ensures failed { OnErr result (Rose (K.faults out.old) (K.faults out.new)) }
-    ensures front { AppendsFront (K.written out.old) (K.written out.new) line.now }
-{
-    write_all(out, line.bytes())
-}
 
 fn write_domain<K: Sink>(previous: Option<&Rule>, domain: &Id, out: &mut K) -> Result<(), Failed>
     ensures ok { OnOk result (Appends (K.written out.old) (K.written out.new) (text_of (domain_lines (after (option_copied previous.entry)) domain.now))) }

@@ -3,10 +3,11 @@ use Rattle.std.proofs.Common.{◌≡◌, sym, ap, subst, refl, length}
 use Rattle.circuit_spec.specs.declared.hops.Outcome.{Outcome}
 use Rattle.circuit_spec.specs.declared.hops.Outcome.TheVariants.{Found, NoWalk, Past, Long}
 use Rattle.circuit_spec.specs.Network.{Topology}
-use Rattle.domain_config.specs.Lines.{text_of}
-use Rattle.answer_text.specs.declared.answer.Answer.{Answer}
-use Rattle.answer_text.specs.Exact.{IsExactAnswer}
-use Rattle.answer_text.specs.Spelling.{IsWellFormed, lines_of}
+use Rattle.line_text.specs.Lines.{text_of}
+use Rattle.answer_spec.specs.declared.answer.Answer.{Answer}
+use Rattle.answer_spec.specs.Exact.{IsExactAnswer}
+use Rattle.answer_spec.specs.WellFormed.{IsWellFormed}
+use Rattle.answer_text.specs.Spelling.{lines_of}
 use Rattle.rule_replay.specs.declared.replayed.Replayed.{Replayed as WhatIsTold}
 use Rattle.rule_replay.specs.declared.replayed.Replayed.TheVariants.{Carried, NotCarried}
 use Rattle.rule_replay.specs.declared.replayed.ReplayCause.TheVariants as cause

@@ -4,9 +4,9 @@ use Rattle.std.specs.List.{concat}
 use Rattle.circuit_spec.specs.declared.hops.Request.{Request}
 use Rattle.circuit_spec.specs.Network.{Topology}
 use Rattle.circuit_spec.specs.Faults.{IsKnown, IsSound}
-use Rattle.answer_text.specs.declared.answer.Answer.{Answer}
-use Rattle.answer_text.specs.Certificate.{Certificate}
-use Rattle.answer_text.specs.Exact.{IsExactAnswer}
+use Rattle.answer_spec.specs.declared.answer.Answer.{Answer}
+use Rattle.answer_spec.specs.Certificate.{Certificate}
+use Rattle.answer_spec.specs.Exact.{IsExactAnswer}
 use Rattle.replies.specs.declared.reply.Reply.{Reply}
 use Rattle.replies.specs.Status.{status_of}
 use Rattle.replies.specs.Through.{IsText}

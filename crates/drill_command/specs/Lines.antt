@@ -3,7 +3,7 @@ use Rattle.std.specs.Prelude.{ℕ, ◌+◌, ◌*◌, List, [], ◌∷◌, ◌++�
 use Rattle.std.specs.List.{list_all}
 use Rattle.circuit_spec.specs.declared.hops.Outcome.{Outcome}
 use Rattle.circuit_spec.specs.declared.hops.Outcome.TheVariants.{Found, NoWalk, Past, Long}
-use Rattle.answer_text.specs.declared.answer.Answer.{Answer}
+use Rattle.answer_spec.specs.declared.answer.Answer.{Answer}
 use Rattle.answer_text.specs.Spelling.{outcome_line}
 use Rattle.rule_replay.specs.declared.replayed.Replayed.{Replayed}
 use Rattle.rule_replay.specs.declared.replayed.Replayed.TheVariants.{Carried, NotCarried}

@@ -3,9 +3,9 @@ ghost use Rattle.std.specs.Prelude.{◌≡◌, ◌≤◌, ◌<◌, ◌^◌, ◌�
 ghost use Rattle.std.specs.List.{concat};
 ghost use Rattle.circuit_spec.specs.Faults.{IsAccepted, IsSound};
 ghost use Rattle.circuit_spec.specs.Network.{elements_of};
-ghost use Rattle.answer_text.specs.Spelling.{IsWellFormed};
-ghost use Rattle.answer_text.specs.Certificate.{Certificate};
-ghost use Rattle.answer_text.specs.Exact.{IsExactAnswer};
+ghost use Rattle.answer_spec.specs.WellFormed.{IsWellFormed};
+ghost use Rattle.answer_spec.specs.Certificate.{Certificate};
+ghost use Rattle.answer_spec.specs.Exact.{IsExactAnswer};
 ghost use Rattle.replies.specs.Status.{status_of};
 ghost use Rattle.replies.specs.Through.{IsText};
 ghost use Rattle.drill_command.specs.Drilling.{IsDrilled, IsReady, IsSolved, IsSummary};
@@ -14,7 +14,7 @@ ghost use Rattle.drill_command.specs.Lines.{replay_line, summary, told_line};
 use crate::lines::{
     make_drill_line, make_outcome_line, make_replay_line, make_size_line, make_valid_line,
 };
-use answer_text::Answer;
+use answer_spec::Answer;
 use cert_check::verify;
 use circuit_spec::{MergeFault, Request};
 use finder_core::{SolveFault, solve};

@@ -2,8 +2,8 @@
 use Rattle.std.proofs.Common.{true, false, Bool}
 use Rattle.circuit_spec.specs.declared.hops.Outcome.{Outcome}
 use Rattle.circuit_spec.specs.declared.hops.Outcome.TheVariants.{Found, NoWalk, Past, Long}
-use Rattle.answer_text.specs.declared.answer.Answer.{Answer}
-use Rattle.answer_text.specs.Spelling.{IsBody, IsWellFormed}
+use Rattle.answer_spec.specs.declared.answer.Answer.{Answer}
+use Rattle.answer_spec.specs.WellFormed.{IsBody, IsWellFormed}
 use Rattle.find_command.specs.Finding.{shown, without_potentials}
 
 body-without : (o : Outcome) (a : Answer) → IsBody o a → IsBody o (without_potentials a)

@@ -2,11 +2,12 @@
 use Rattle.std.specs.Prelude.{◌≡◌, ◌≢◌, ◌⊎◌, [], Bool, true, false}
 use Rattle.circuit_spec.specs.declared.hops.Request.{Request}
 use Rattle.circuit_spec.specs.Network.{Topology}
-use Rattle.domain_config.specs.Lines.{text_of}
-use Rattle.answer_text.specs.declared.answer.Answer.{Answer}
-use Rattle.answer_text.specs.Certificate.{Certificate}
-use Rattle.answer_text.specs.Exact.{IsExactAnswer}
-use Rattle.answer_text.specs.Spelling.{lines_of, IsWellFormed}
+use Rattle.line_text.specs.Lines.{text_of}
+use Rattle.answer_spec.specs.declared.answer.Answer.{Answer}
+use Rattle.answer_spec.specs.Certificate.{Certificate}
+use Rattle.answer_spec.specs.Exact.{IsExactAnswer}
+use Rattle.answer_text.specs.Spelling.{lines_of}
+use Rattle.answer_spec.specs.WellFormed.{IsWellFormed}
 use Rattle.finder_core.specs.Refusals.{IsRefusal}
 use Rattle.finder_core.specs.declared.faults.SolveFault.{SolveFault}
 use Rattle.finder_core.specs.declared.faults.SolveFault.TheVariants as solving

@@ -2,8 +2,9 @@
 ghost use Rattle.std.specs.Prelude.{◌≡◌, ◌≢◌, ◌≤◌, ◌<◌, ◌^◌, [], IfOk, length};
 ghost use Rattle.circuit_spec.specs.Faults.{IsSound};
 ghost use Rattle.circuit_spec.specs.Network.{elements_of};
-ghost use Rattle.domain_config.specs.Lines.{text_of};
-ghost use Rattle.answer_text.specs.Spelling.{lines_of, IsWellFormed};
+ghost use Rattle.line_text.specs.Lines.{text_of};
+ghost use Rattle.answer_text.specs.Spelling.{lines_of};
+ghost use Rattle.answer_spec.specs.WellFormed.{IsWellFormed};
 ghost use Rattle.file_words.specs.Accepting.{IfAccepted};
 ghost use Rattle.find_command.specs.Finding.{IsFound, shown, without_potentials};
 ghost use Rattle.find_command.specs.Lines.{request_line};
@@ -12,7 +13,7 @@ ghost use Rattle.replies.specs.Status.{status_of};
 ghost use Rattle.replies.specs.Through.{Gives, IsText};
 
 use crate::lines::{make_label_not_here_line, make_unknown_port_line};
-use answer_text::{Answer, PotList};
+use answer_spec::{Answer, PotList};
 use circuit_spec::Request;
 use file_words::{accept, read_sources};
 use finder_core::{SolveFault, solve};

@@ -14,11 +14,12 @@ use Rattle.circuit_spec.specs.Network.{Topology}
 use Rattle.circuit_spec.specs.Steps.{Circuit, IsOutcome, Joins, Walk, unit_at, weight_of}
 use Rattle.circuit_spec.proofs.HopRuns.{place_of, run_over}
 use Rattle.circuit_spec.proofs.Matching.{undone, only_one}
-use Rattle.domain_config.specs.Lines.{text_of}
-use Rattle.answer_text.specs.declared.answer.Answer.{Answer}
-use Rattle.answer_text.specs.Certificate.{Certificate}
-use Rattle.answer_text.specs.Exact.{AreHopsOf, IsExactAnswer}
-use Rattle.answer_text.specs.Spelling.{IsWellFormed, lines_of}
+use Rattle.line_text.specs.Lines.{text_of}
+use Rattle.answer_spec.specs.declared.answer.Answer.{Answer}
+use Rattle.answer_spec.specs.Certificate.{Certificate}
+use Rattle.answer_spec.specs.Exact.{AreHopsOf, IsExactAnswer}
+use Rattle.answer_spec.specs.WellFormed.{IsWellFormed}
+use Rattle.answer_text.specs.Spelling.{lines_of}
 use Rattle.answer_text.proofs.OneAnswer.{spelled_once}
 use Rattle.command_words.specs.Words.{Words}
 use Rattle.verdict.specs.declared.verdicts.Verdict.TheVariants.{Valid}

@@ -15,12 +15,13 @@ use Rattle.circuit_spec.specs.Kept.{AreOverKept}
 use Rattle.circuit_spec.specs.Laws.{AdaptationsMatch}
 use Rattle.circuit_spec.specs.Network.{Topology}
 use Rattle.circuit_spec.specs.Steps.{Circuit, IsOutcome, Walk, weight_of}
-use Rattle.domain_config.specs.Lines.{text_of}
-use Rattle.domain_config.specs.Numbering.{AreRulesOf}
-use Rattle.answer_text.specs.declared.answer.Answer.{Answer}
-use Rattle.answer_text.specs.Certificate.{AreFlagged, Certificate}
-use Rattle.answer_text.specs.Exact.{IsExactAnswer}
-use Rattle.answer_text.specs.Spelling.{IsWellFormed, lines_of}
+use Rattle.line_text.specs.Lines.{text_of}
+use Rattle.device_rules.specs.Numbering.{AreRulesOf}
+use Rattle.answer_spec.specs.declared.answer.Answer.{Answer}
+use Rattle.answer_spec.specs.Certificate.{AreFlagged, Certificate}
+use Rattle.answer_spec.specs.Exact.{IsExactAnswer}
+use Rattle.answer_spec.specs.WellFormed.{IsWellFormed}
+use Rattle.answer_text.specs.Spelling.{lines_of}
 use Rattle.verdict.specs.declared.verdicts.Verdict.TheVariants.{Valid}
 use Rattle.verdict.specs.Verdicts.{IsVerdict}
 use Rattle.finder_core.specs.Refusals.{IsRefusal}

@@ -14,15 +14,15 @@ use Rattle.circuit_spec.specs.Steps.{IsOutcome, weight_of}
 use Rattle.circuit_spec.proofs.CappedWeights.{cap_known}
 use Rattle.kept_table.specs.Table.{keeping_of}
 use Rattle.machine_build.specs.Built.{BuiltValue}
-use Rattle.domain_config.specs.declared.rules.Rule.{Rule}
-use Rattle.domain_config.specs.Numbering.{AreRulesOf, numbered}
-use Rattle.answer_text.specs.declared.answer.Answer.{Answer}
-use Rattle.answer_text.specs.declared.answer.PotLine.{PotLine}
-use Rattle.answer_text.specs.Certificate.{Certificate}
-use Rattle.answer_text.specs.Exact.{AreHopsOf, IsExactAnswer}
-use Rattle.answer_text.specs.Ordered.{IsNoWalk, IsOrdered, IsShortOutcome, IsWalkOrdered}
-use Rattle.answer_text.specs.Potentials.{ArePotentials}
-use Rattle.answer_text.proofs.Certified.{certified}
+use Rattle.device_rules.specs.declared.rules.Rule.{Rule}
+use Rattle.device_rules.specs.Numbering.{AreRulesOf, numbered}
+use Rattle.answer_spec.specs.declared.answer.Answer.{Answer}
+use Rattle.answer_spec.specs.declared.answer.PotLine.{PotLine}
+use Rattle.answer_spec.specs.Certificate.{Certificate}
+use Rattle.answer_spec.specs.Exact.{AreHopsOf, IsExactAnswer}
+use Rattle.answer_spec.specs.Ordered.{IsNoWalk, IsOrdered, IsShortOutcome, IsWalkOrdered}
+use Rattle.answer_spec.specs.Potentials.{ArePotentials}
+use Rattle.answer_spec.proofs.Certified.{certified}
 use Rattle.machine_lift.specs.Lift.{IsMachineOf}
 use Rattle.finder_core.specs.Outcomes.{IsTold}
 use Rattle.finder_core.proofs.Flagged.{flags_for_hops}

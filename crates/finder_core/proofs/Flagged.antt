@@ -24,9 +24,9 @@ use Rattle.open_places.specs.Places.{IsRising}
 use Rattle.machine_build.specs.Built.{BuiltValue, IsHopAt, MovesBy}
 use Rattle.machine_lift.specs.Lift.{AreHopsAt, IsMachineOf}
 use Rattle.machine_lift.proofs.States.{one_number, same_at}
-use Rattle.answer_text.specs.Arriving.{start_of}
-use Rattle.answer_text.specs.Certificate.{AreFlagged}
-use Rattle.answer_text.proofs.Carried.{walk_flagged}
+use Rattle.answer_spec.specs.Arriving.{start_of}
+use Rattle.answer_spec.specs.Certificate.{AreFlagged}
+use Rattle.answer_spec.proofs.Carried.{walk_flagged}
 use Rattle.finder_core.specs.Passing.{flags_of, repeats_after, state_entered, state_left, states_entered}
 
 -- Places are the same where their states are

@@ -29,7 +29,7 @@ use Rattle.kept_table.specs.Table.{keeping_of}
 use Rattle.machine_build.specs.Built.{BuiltValue}
 use Rattle.machine_lift.specs.Lift.{AreHopsAt, AreLifted, IsMachineOf}
 use Rattle.machine_lift.proofs.Lifted.{lifted}
-use Rattle.answer_text.specs.Exact.{AreHopsOf}
+use Rattle.answer_spec.specs.Exact.{AreHopsOf}
 use Rattle.finder_core.specs.Outcomes.{IsCheapestWalk, IsListable, outcome_of}
 
 -- The outcome of a least capped weight

@@ -14,8 +14,8 @@ use Rattle.circuit_spec.specs.Steps.{IsOutcome, Walk, weight_of}
 use Rattle.circuit_spec.specs.Kept.{AreOverKept}
 use Rattle.machine_build.specs.Built.{BuiltValue, IsHopAt}
 use Rattle.machine_lift.specs.Lift.{AreHopsAt}
-use Rattle.answer_text.specs.Certificate.{AreFlagged}
-use Rattle.answer_text.specs.Exact.{AreHopsOf}
+use Rattle.answer_spec.specs.Certificate.{AreFlagged}
+use Rattle.answer_spec.specs.Exact.{AreHopsOf}
 
 abbrev pub outcome_of : Weight → Outcome
 outcome_of weight.Past = Past

@@ -2,7 +2,7 @@ ghost use Rattle.std.specs.Prelude.{◌≡◌, ◌<◌, IfOk, None, length, repl
 ghost use Rattle.repeat_flags.specs.Visits.{noted};
 ghost use Rattle.finder_core.specs.Passing.{AddsFlag, state_left};
 
-use answer_text::FlagList;
+use answer_spec::FlagList;
 use machine_build::Built;
 use ml_base::{NoMemory, StepNo};
 use repeat_flags::Flags;

@@ -6,7 +6,7 @@ ghost use Rattle.finder_core.specs.Outcomes.{AddsHop, IsListable};
 ghost use Rattle.finder_core.specs.Passing.{AddsFlag, flags_of};
 
 use crate::flagging::{add_flag, begin_visits};
-use answer_text::FlagList;
+use answer_spec::FlagList;
 use circuit_spec::{HOP_LIMIT, HopList, Request};
 use deriv_arena::Deriv;
 use machine_build::Built;

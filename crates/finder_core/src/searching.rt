@@ -8,7 +8,7 @@ ghost use Rattle.machine_lift.specs.Lift.{IsMachineOf};
 ghost use Rattle.finder_core.specs.Outcomes.{IsCheapestWalk, IsTold, outcome_of};
 
 use crate::listing::{Listed, list_walk};
-use answer_text::FlagList;
+use answer_spec::FlagList;
 use bumpalo::Bump;
 use circuit_spec::{HOP_LIMIT, HopList, Outcome, Request};
 use deriv_arena::Deriv;

@@ -20,9 +20,9 @@ use Rattle.circuit_spec.proofs.ClassLemmas.{class_of_itself}
 use Rattle.nml_inventory.specs.Relations.{AreClassLabels}
 use Rattle.packet_replay.specs.Carried.{admits}
 use Rattle.packet_replay.proofs.Opened.{opened}
-use Rattle.answer_text.specs.declared.answer.Answer.{Answer}
-use Rattle.answer_text.specs.Certificate.{first_place}
-use Rattle.answer_text.proofs.Carried.{arrived, ends_allowed}
+use Rattle.answer_spec.specs.declared.answer.Answer.{Answer}
+use Rattle.answer_spec.specs.Certificate.{first_place}
+use Rattle.answer_spec.proofs.Carried.{arrived, ends_allowed}
 use Rattle.verdict.proofs.Stuck.{one_class, one_run}
 use Rattle.hop_check.specs.Arriving.{EndsWell, IsSomewhere, ServesBoth}
 use Rattle.hop_check.specs.Carrying.{Leads}

@@ -7,10 +7,12 @@ use Rattle.std.proofs.lemmas.Bool.Decides.{nat_tests}
 use Rattle.std.proofs.lemmas.List.{drop_more, drop_all, take_all, take_more_same}
 use Rattle.std.proofs.lemmas.Option.{get_or_from_slice_get, slice_get_within}
 use Rattle.std.proofs.lemmas.Slice.Eq.{bytes_eq-Decides}
-use Rattle.domain_config.specs.declared.rules.Rule.{Rule}
-use Rattle.domain_config.specs.Lines.{Line, said}
-use Rattle.domain_config.specs.Fields.{Word, is_id, words_in}
-use Rattle.domain_config.specs.Rules.{At, Start, In, IsRule, AreLaidOut, domain_line, domain_lines, may_follow, is_below, rule_line, rule_lines, rule_step, rules_end}
+use Rattle.device_rules.specs.declared.rules.Rule.{Rule}
+use Rattle.line_text.specs.Lines.{Line, said}
+use Rattle.line_text.specs.Fields.{Word, words_in}
+use Rattle.place_names.specs.Names.{is_id, is_below}
+use Rattle.device_rules.specs.Rules.{At, Start, In, IsRule, AreLaidOut, may_follow}
+use Rattle.domain_config.specs.Rules.{domain_line, domain_lines, rule_line, rule_lines, rule_step, rules_end}
 use Rattle.domain_config.proofs.RuleLaws.{domain_words, rules_only}
 use Rattle.verdict.specs.First.{IsFirstDifference}
 

@@ -11,7 +11,7 @@ use Rattle.circuit_spec.specs.contracts.hops.HopKind.{the_type}
 use Rattle.circuit_spec.specs.declared.hops.Hop.{Hop}
 use Rattle.circuit_spec.specs.declared.hops.HopKind.{HopKind}
 use Rattle.circuit_spec.specs.Network.{Name, Tag}
-use Rattle.domain_config.specs.declared.rules.Rule.{Rule}
+use Rattle.device_rules.specs.declared.rules.Rule.{Rule}
 
 same_tag : (a b : Tag) → option_eq nat_eq a b ≡ true → a ≡ b
 same_tag None None h = refl

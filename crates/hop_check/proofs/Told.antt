@@ -4,8 +4,8 @@ use Rattle.circuit_spec.specs.declared.hops.Hop.{Hop}
 use Rattle.circuit_spec.specs.declared.hops.Outcome.{Outcome}
 use Rattle.circuit_spec.specs.declared.hops.Outcome.TheVariants as outcome
 use Rattle.circuit_spec.specs.Network.{Topology}
-use Rattle.answer_text.specs.declared.answer.Answer.{Answer}
-use Rattle.answer_text.specs.Spelling.{AreHops, IsBody}
+use Rattle.answer_spec.specs.declared.answer.Answer.{Answer}
+use Rattle.answer_spec.specs.WellFormed.{AreHops, IsBody}
 use Rattle.verdict.specs.declared.rules.Rule.{Rule}
 use Rattle.verdict.specs.declared.rules.Rule.TheVariants as rule
 use Rattle.verdict.specs.declared.verdicts.CheckFault.{CheckFault}

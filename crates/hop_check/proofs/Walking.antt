@@ -12,8 +12,8 @@ use Rattle.circuit_spec.specs.Flags.{Enters}
 use Rattle.circuit_spec.specs.Network.{Topology, Port, IsOpen}
 use Rattle.circuit_spec.specs.Segments.{unit_in}
 use Rattle.circuit_spec.specs.Steps.{Rule, Run, Step, frame_of}
-use Rattle.answer_text.specs.declared.answer.Answer.{Answer}
-use Rattle.answer_text.specs.Certificate.{AreCarried, first_place}
+use Rattle.answer_spec.specs.declared.answer.Answer.{Answer}
+use Rattle.answer_spec.specs.Certificate.{AreCarried, first_place}
 use Rattle.verdict.specs.Faults.{HasStuckHop}
 use Rattle.hop_check.specs.Arriving.{IsSomewhere}
 use Rattle.hop_check.specs.Carrying.{Leads}

@@ -5,8 +5,8 @@ use Rattle.circuit_spec.specs.declared.hops.Unit.{Unit as DataUnit}
 use Rattle.circuit_spec.specs.Network.{Topology, Port, IsClass}
 use Rattle.circuit_spec.specs.Steps.{Run, Step}
 use Rattle.circuit_spec.specs.Segments.{unit_in}
-use Rattle.answer_text.specs.declared.answer.Answer.{Answer}
-use Rattle.answer_text.specs.Certificate.{first_place}
+use Rattle.answer_spec.specs.declared.answer.Answer.{Answer}
+use Rattle.answer_spec.specs.Certificate.{first_place}
 
 -- from the place where the hops of the answer begin, with the empty stack, these hops lead to the unit
 abbrev pub Leads : Topology → Answer → List Hop → DataUnit → Type 0

@@ -1,7 +1,7 @@
 -- What the check of one rule says.
 use Rattle.std.specs.Prelude.{◌≡◌, ℕ, Some, slice_get, Result, Ok, Err}
 use Rattle.circuit_spec.specs.Network.{Name, Topology, Port, IsClass, ports}
-use Rattle.answer_text.specs.declared.answer.Answer.{Answer}
+use Rattle.answer_spec.specs.declared.answer.Answer.{Answer}
 use Rattle.verdict.specs.declared.rules.Rule.{Rule}
 use Rattle.verdict.specs.declared.verdicts.CheckFault.{CheckFault}
 use Rattle.verdict.specs.declared.verdicts.CheckFault.TheVariants as fault

@@ -9,7 +9,7 @@ ghost use Rattle.hop_check.specs.Carrying.{Leads};
 ghost use Rattle.hop_check.specs.Deciding.{Decides};
 
 use crate::ends::class_of;
-use answer_text::Answer;
+use answer_spec::Answer;
 use circuit_spec::{Outcome, Request, Unit};
 use ml_base::{PortNo, Tag, Wish};
 use nml_elements::Labels;

@@ -2,13 +2,13 @@ ghost use Rattle.std.specs.Prelude.{◌≡◌, ◌<◌, ◌≤◌, ◌+◌, [], 
 ghost use Rattle.circuit_spec.specs.Faults.{IsKnown, IsSound};
 ghost use Rattle.circuit_spec.specs.Network.{IsClass, Port};
 ghost use Rattle.circuit_spec.specs.Segments.{unit_in};
-ghost use Rattle.answer_text.specs.Certificate.{first_label, first_place};
+ghost use Rattle.answer_spec.specs.Certificate.{first_label, first_place};
 ghost use Rattle.verdict.specs.declared.rules.Rule.TheVariants as rule;
 ghost use Rattle.hop_check.specs.Carrying.{Leads, TakesOrNot};
 ghost use Rattle.hop_check.specs.Deciding.{Decides};
 
 use crate::ends::class_of;
-use answer_text::Answer;
+use answer_spec::Answer;
 use circuit_spec::{FrameList, Hop, HopList, Unit};
 use ml_base::{Id, NoMemory, Tag, Wish};
 use nml_inventory::Inventory;

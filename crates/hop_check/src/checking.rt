@@ -1,6 +1,6 @@
 ghost use Rattle.std.specs.Prelude.{MatchResult};
 ghost use Rattle.circuit_spec.specs.Faults.{IsSound};
-ghost use Rattle.answer_text.specs.Spelling.{IsWellFormed};
+ghost use Rattle.answer_spec.specs.WellFormed.{IsWellFormed};
 ghost use Rattle.verdict.specs.declared.rules.Rule.TheVariants as rule;
 ghost use Rattle.verdict.specs.Faults.{TellsFirst};
 ghost use Rattle.verdict.specs.Rules.{PassWithin};
@@ -11,7 +11,7 @@ use crate::ends::check_ends;
 use crate::flagging::check_flags;
 use crate::ruling::check_rules;
 use crate::weighing::check_weight;
-use answer_text::Answer;
+use answer_spec::Answer;
 use nml_inventory::Inventory;
 use std::alloc::Global;
 use verdict::CheckFault;

@@ -5,7 +5,7 @@ ghost use Rattle.circuit_spec.specs.Network.{IsClass, Port};
 ghost use Rattle.verdict.specs.declared.rules.Rule.TheVariants as rule;
 ghost use Rattle.hop_check.specs.Deciding.{Decides, IsClassNo};
 
-use answer_text::Answer;
+use answer_spec::Answer;
 use ml_base::{Id, PortNo, Wish};
 use nml_elements::Labels;
 use nml_inventory::Inventory;

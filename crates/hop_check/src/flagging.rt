@@ -5,13 +5,13 @@ ghost use Rattle.circuit_spec.specs.declared.hops.PlaceName.{PlaceName as Place}
 ghost use Rattle.circuit_spec.specs.Faults.{IsKnown};
 ghost use Rattle.circuit_spec.specs.Flags.{same_place};
 ghost use Rattle.circuit_spec.specs.Network.{IsClass, Port};
-ghost use Rattle.answer_text.specs.Certificate.{AreCarried, first_place};
+ghost use Rattle.answer_spec.specs.Certificate.{AreCarried, first_place};
 ghost use Rattle.verdict.specs.declared.rules.Rule.TheVariants as rule;
 ghost use Rattle.hop_check.specs.Deciding.{Decides};
 ghost use Rattle.hop_check.specs.Visits.{AreVisits, EntersPlace, first_at, place_cmp};
 
 use crate::carrying::{class_name, first_label};
-use answer_text::Answer;
+use answer_spec::Answer;
 use circuit_spec::{Hop, PlaceName};
 use ml_base::NoMemory;
 use nml_inventory::Inventory;

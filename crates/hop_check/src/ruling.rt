@@ -1,14 +1,14 @@
 ghost use Rattle.std.specs.Prelude.{◌≡◌, ◌≢◌, ◌↔◌, ◌<◌, ◌≤◌, ◌^◌, ◌∷◌, IfSome, List, Some, IsTrue, MatchOption, length, slice_get, option_copied};
 ghost use Rattle.circuit_spec.specs.Network.{Topology};
-ghost use Rattle.domain_config.specs.declared.rules.Rule.{Rule as OneRule};
-ghost use Rattle.domain_config.specs.Rules.{AreLaidOut, Start, domain_lines, rule_lines};
-ghost use Rattle.domain_config.specs.Writing.{after};
+ghost use Rattle.device_rules.specs.declared.rules.Rule.{Rule as OneRule};
+ghost use Rattle.device_rules.specs.Rules.{AreLaidOut, Start, after};
+ghost use Rattle.domain_config.specs.Rules.{domain_lines, rule_lines};
 ghost use Rattle.verdict.specs.declared.rules.Rule.TheVariants as rule;
 ghost use Rattle.verdict.specs.First.{IsFirstDifference};
 ghost use Rattle.hop_check.specs.Deciding.{Decides};
 
-use answer_text::Answer;
-use domain_config::{Rule as DeviceRule, RuleList, rules_of};
+use answer_spec::Answer;
+use device_rules::{Rule as DeviceRule, RuleList, rules_of};
 use ml_base::Id;
 use std::alloc::Global;
 use verdict::{CheckFault, Rule};

@@ -1,10 +1,10 @@
 ghost use Rattle.std.specs.Prelude.{◌≡◌, ◌↔◌, ◌<◌, ◌≤◌, ◌^◌, IsTrue, MatchOption, sum_by};
 ghost use Rattle.circuit_spec.specs.Steps.{cost_of, cost_of_element, weight_of};
-ghost use Rattle.answer_text.specs.Certificate.{IsWeighed};
+ghost use Rattle.answer_spec.specs.Certificate.{IsWeighed};
 ghost use Rattle.verdict.specs.declared.rules.Rule.TheVariants as rule;
 ghost use Rattle.hop_check.specs.Deciding.{Decides};
 
-use answer_text::Answer;
+use answer_spec::Answer;
 use circuit_spec::{HOP_LIMIT, Hop, HopList, Outcome};
 use nml_elements::Element;
 use nml_inventory::Inventory;

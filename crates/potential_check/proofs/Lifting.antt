@@ -29,11 +29,11 @@ use Rattle.machine_lift.proofs.Doing.{down, machine_does, network_does, up}
 use Rattle.machine_lift.proofs.Lifted.{lifted}
 use Rattle.machine_lift.proofs.Simulations.{Simulates}
 use Rattle.machine_lift.proofs.States.{one_number}
-use Rattle.answer_text.specs.declared.answer.PotLine.{PotLine}
-use Rattle.answer_text.specs.declared.answer.RootName.{RootName}
-use Rattle.answer_text.specs.declared.answer.RootName.TheVariants as name
-use Rattle.answer_text.specs.Certificate as net
-use Rattle.answer_text.specs.Potentials as listed
+use Rattle.answer_spec.specs.declared.answer.PotLine.{PotLine}
+use Rattle.answer_spec.specs.declared.answer.RootName.{RootName}
+use Rattle.answer_spec.specs.declared.answer.RootName.TheVariants as name
+use Rattle.answer_spec.specs.Certificate as net
+use Rattle.answer_spec.specs.Potentials as listed
 use Rattle.pair_check.specs.Least.{IsLeastAt, IsLeastOf, NoneIsListed}
 use Rattle.pair_check.specs.Rules as pair
 use Rattle.potential_check.specs.Pairs.{ArePairsOf, IsOutcomeOf, IsPairOf}

@@ -17,12 +17,13 @@ use Rattle.segment_grammar.specs.declared.potentials.Pot.{Pot}
 use Rattle.segment_grammar.specs.Pots.{IsAboveLast, IsBelow}
 use Rattle.circuit_spec.specs.declared.hops.PlaceName.{PlaceName}
 use Rattle.circuit_spec.specs.Network.{Name, Tag}
-use Rattle.domain_config.specs.Rules.{is_below}
-use Rattle.answer_text.specs.declared.answer.PotLine.{PotLine}
-use Rattle.answer_text.specs.declared.answer.RootName.{RootName}
-use Rattle.answer_text.specs.declared.answer.RootName.TheVariants as name
-use Rattle.answer_text.specs.Potentials.{root_place}
-use Rattle.answer_text.specs.Spelling.{ArePots, is_place_below, is_pot_below, is_tag_below, same_place, same_tag}
+use Rattle.place_names.specs.Names.{is_below, is_place_below, is_tag_below}
+use Rattle.circuit_spec.specs.Flags.{same_place, same_tag}
+use Rattle.answer_spec.specs.declared.answer.PotLine.{PotLine}
+use Rattle.answer_spec.specs.declared.answer.RootName.{RootName}
+use Rattle.answer_spec.specs.declared.answer.RootName.TheVariants as name
+use Rattle.answer_spec.specs.Potentials.{root_place}
+use Rattle.answer_spec.specs.WellFormed.{ArePots, is_pot_below}
 use Rattle.open_places.specs.Places.{IsRising, place_cmp}
 use Rattle.open_places.proofs.Ordered.{below_at, place_below, place_total}
 use Rattle.machine_build.specs.Built.{BuiltValue, IsState}

@@ -12,12 +12,12 @@ use Rattle.circuit_spec.specs.Network.{Port, Tag, Topology}
 use Rattle.kept_table.specs.Table.{IsKeptTable, KeptOfType}
 use Rattle.open_places.specs.Places.{IsListed}
 use Rattle.machine_build.specs.Built.{BuiltValue, IsBuilt}
-use Rattle.answer_text.specs.declared.answer.PotLine.{PotLine}
-use Rattle.answer_text.specs.declared.answer.RootName.{RootName}
-use Rattle.answer_text.specs.declared.answer.RootName.TheVariants as name
+use Rattle.answer_spec.specs.declared.answer.PotLine.{PotLine}
+use Rattle.answer_spec.specs.declared.answer.RootName.{RootName}
+use Rattle.answer_spec.specs.declared.answer.RootName.TheVariants as name
 use Rattle.machine_lift.specs.Lift.{IsRootAt}
-use Rattle.answer_text.specs.Potentials.{root_place}
-use Rattle.answer_text.specs.Certificate.{IsKeptPlace, IsKeptRoot, IsPlaced}
+use Rattle.answer_spec.specs.Potentials.{root_place}
+use Rattle.answer_spec.specs.Certificate.{IsKeptPlace, IsKeptRoot, IsPlaced}
 use Rattle.verdict.specs.First.{IsFirstFailing}
 use Rattle.potential_check.specs.Pairs.{ArePairsOf, HasPair, IsPairOf, IsRootOfState}
 use Rattle.potential_check.proofs.Zipped.{zip_all}

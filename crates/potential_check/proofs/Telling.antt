@@ -11,10 +11,10 @@ use Rattle.circuit_spec.specs.declared.hops.Outcome.TheVariants as outcome
 use Rattle.circuit_spec.specs.declared.hops.Outcome.{Outcome}
 use Rattle.machine_build.specs.Built.{BuiltValue}
 use Rattle.machine_lift.specs.Lift.{IsMachineOf}
-use Rattle.answer_text.specs.declared.answer.Answer.{Answer}
-use Rattle.answer_text.specs.declared.answer.PotLine.{PotLine}
-use Rattle.answer_text.specs.Certificate as net
-use Rattle.answer_text.specs.Spelling.{ArePots, IsBody, IsWellFormed}
+use Rattle.answer_spec.specs.declared.answer.Answer.{Answer}
+use Rattle.answer_spec.specs.declared.answer.PotLine.{PotLine}
+use Rattle.answer_spec.specs.Certificate as net
+use Rattle.answer_spec.specs.WellFormed.{ArePots, IsBody, IsWellFormed}
 use Rattle.pair_check.specs.declared.fault.PairFault.{PairFault}
 use Rattle.pair_check.specs.declared.fault.PairFault.TheVariants as pairs
 use Rattle.pair_check.specs.Least.{IsLeastOf}

@@ -1,8 +1,8 @@
 -- The first rule on potentials that fails, and where.
 use Rattle.std.specs.Prelude.{◌≡◌, ◌+◌, List}
 use Rattle.circuit_spec.specs.Network.{Topology}
-use Rattle.answer_text.specs.declared.answer.Answer.{Answer}
-use Rattle.answer_text.specs.declared.answer.PotLine.{PotLine}
+use Rattle.answer_spec.specs.declared.answer.Answer.{Answer}
+use Rattle.answer_spec.specs.declared.answer.PotLine.{PotLine}
 use Rattle.machine_build.specs.Built.{BuiltValue}
 use Rattle.pair_check.specs.declared.fault.PairFault.{PairFault}
 use Rattle.pair_check.specs.declared.fault.PairFault.TheVariants as pairs

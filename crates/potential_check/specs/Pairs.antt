@@ -6,10 +6,10 @@ use Rattle.ml_base.specs.declared.weight.Weight.TheVariants as weight
 use Rattle.circuit_spec.specs.declared.hops.Outcome.{Outcome}
 use Rattle.circuit_spec.specs.declared.hops.Outcome.TheVariants.{Found, NoWalk, Past, Long}
 use Rattle.segment_grammar.specs.declared.potentials.Pot.{Pot}
-use Rattle.answer_text.specs.declared.answer.PotLine.{PotLine}
-use Rattle.answer_text.specs.declared.answer.RootName.{RootName}
-use Rattle.answer_text.specs.declared.answer.RootName.TheVariants as root
-use Rattle.answer_text.specs.Potentials.{root_place}
+use Rattle.answer_spec.specs.declared.answer.PotLine.{PotLine}
+use Rattle.answer_spec.specs.declared.answer.RootName.{RootName}
+use Rattle.answer_spec.specs.declared.answer.RootName.TheVariants as root
+use Rattle.answer_spec.specs.Potentials.{root_place}
 use Rattle.machine_build.specs.Built.{BuiltValue, IsState}
 use Rattle.machine_lift.specs.Lift.{IsRootAt}
 

@@ -1,5 +1,5 @@
 ghost use Rattle.std.specs.Prelude.{IfErr, OnOk};
-ghost use Rattle.answer_text.specs.Spelling.{IsWellFormed};
+ghost use Rattle.answer_spec.specs.WellFormed.{IsWellFormed};
 ghost use Rattle.circuit_spec.specs.Network.{Topology};
 ghost use Rattle.machine_lift.specs.Lift.{IsMachineOf};
 ghost use Rattle.verdict.specs.declared.rules.Rule.TheVariants as rule;
@@ -9,7 +9,7 @@ ghost use Rattle.potential_check.specs.Faults.{IsFirstOf};
 use crate::agreeing::is_outcome_of;
 use crate::fault::PotentialFault;
 use crate::pairs::pairs_of;
-use answer_text::Answer;
+use answer_spec::Answer;
 use machine_build::Built;
 use pair_check::{check_pairs, least_listed};
 use std::alloc::Global;

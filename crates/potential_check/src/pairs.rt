@@ -1,13 +1,13 @@
 ghost use Rattle.std.specs.Prelude.{None, IfErr, IfOk, MatchOption};
-ghost use Rattle.answer_text.specs.Potentials.{root_place};
-ghost use Rattle.answer_text.specs.Spelling.{ArePots};
+ghost use Rattle.answer_spec.specs.Potentials.{root_place};
+ghost use Rattle.answer_spec.specs.WellFormed.{ArePots};
 ghost use Rattle.open_places.specs.Places.{IsRising};
 ghost use Rattle.machine_lift.specs.Lift.{IsRootAt};
 ghost use Rattle.potential_check.specs.Faults.{TellsUnplaced};
 ghost use Rattle.potential_check.specs.Pairs.{ArePairsOf, HasPair, IsPairOf, IsRootOfState};
 
 use crate::fault::PotentialFault;
-use answer_text::{PotLine, PotList, RootName};
+use answer_spec::{PotLine, PotList, RootName};
 use machine_build::Built;
 use ml_base::Root;
 use segment_grammar::{Pot, Potentials};

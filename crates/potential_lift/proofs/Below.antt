@@ -15,13 +15,14 @@ use Rattle.segment_grammar.specs.declared.potentials.Pot.{Pot}
 use Rattle.segment_grammar.specs.Pots.{IsBelow, IsRootBelow, IsRising}
 use Rattle.circuit_spec.specs.declared.hops.PlaceName.{PlaceName}
 use Rattle.circuit_spec.specs.Network.{Tag}
-use Rattle.domain_config.specs.Rules.{is_below}
-use Rattle.answer_text.specs.declared.answer.PotLine.{PotLine}
-use Rattle.answer_text.specs.declared.answer.RootName.{RootName}
-use Rattle.answer_text.specs.declared.answer.RootName.TheVariants as name
-use Rattle.answer_text.specs.Spelling.{is_tag_below, is_place_below, same_tag, same_place, is_pot_below}
-use Rattle.answer_text.specs.Ordered.{ArePotsInOrder, IsShort}
-use Rattle.answer_text.specs.Potentials.{root_place}
+use Rattle.place_names.specs.Names.{is_below, is_tag_below, is_place_below}
+use Rattle.circuit_spec.specs.Flags.{same_tag, same_place}
+use Rattle.answer_spec.specs.declared.answer.PotLine.{PotLine}
+use Rattle.answer_spec.specs.declared.answer.RootName.{RootName}
+use Rattle.answer_spec.specs.declared.answer.RootName.TheVariants as name
+use Rattle.answer_spec.specs.WellFormed.{is_pot_below}
+use Rattle.answer_spec.specs.Ordered.{ArePotsInOrder, IsShort}
+use Rattle.answer_spec.specs.Potentials.{root_place}
 use Rattle.open_places.specs.Places.{place_cmp, IsRising as ArePlacesRising}
 use Rattle.open_places.proofs.Ordered.{below_at, place_below}
 use Rattle.machine_build.specs.Built.{BuiltValue, IsState}

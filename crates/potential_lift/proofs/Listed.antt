@@ -17,10 +17,10 @@ use Rattle.circuit_spec.specs.declared.hops.Request.{Request}
 use Rattle.circuit_spec.specs.Network.{Topology}
 use Rattle.circuit_spec.specs.Segments.{RootPlace, request, entry, IsLeastOf, IsReached}
 use Rattle.circuit_spec.proofs.CappedWeights.{cap_known}
-use Rattle.answer_text.specs.declared.answer.PotLine.{PotLine}
-use Rattle.answer_text.specs.declared.answer.RootName.{RootName}
-use Rattle.answer_text.specs.Ordered.{IsShort}
-use Rattle.answer_text.specs.Potentials.{root_place, ArePotentials, IsListed, IsPotential}
+use Rattle.answer_spec.specs.declared.answer.PotLine.{PotLine}
+use Rattle.answer_spec.specs.declared.answer.RootName.{RootName}
+use Rattle.answer_spec.specs.Ordered.{IsShort}
+use Rattle.answer_spec.specs.Potentials.{root_place, ArePotentials, IsListed, IsPotential}
 use Rattle.knuth_search.specs.Derived.{IsPotWithin, IsRootWithin}
 use Rattle.knuth_search.specs.Settled.{ArePotentials as AreMachinePotentials}
 use Rattle.machine_build.specs.Built.{BuiltValue, IsState}

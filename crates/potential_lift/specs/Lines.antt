@@ -2,8 +2,8 @@
 use Rattle.std.specs.Prelude.{◌≡◌, ◌++◌, ◌∷◌, [], List, length}
 use Rattle.std.specs.List.{All, AllZip}
 use Rattle.segment_grammar.specs.declared.potentials.Pot.{Pot}
-use Rattle.answer_text.specs.declared.answer.PotLine.{PotLine}
-use Rattle.answer_text.specs.Potentials.{root_place}
+use Rattle.answer_spec.specs.declared.answer.PotLine.{PotLine}
+use Rattle.answer_spec.specs.Potentials.{root_place}
 use Rattle.knuth_search.specs.Derived.{IsPotWithin}
 use Rattle.machine_build.specs.Built.{BuiltValue, IsState}
 use Rattle.machine_lift.specs.Lift.{IsRootAt}

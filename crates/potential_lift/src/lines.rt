@@ -1,13 +1,13 @@
 ghost use Rattle.std.specs.Prelude.{IfOk, length};
 ghost use Rattle.circuit_spec.specs.declared.hops.Request.{Request as TheRequest};
 ghost use Rattle.circuit_spec.specs.Network.{Topology};
-ghost use Rattle.answer_text.specs.Potentials.{ArePotentials, root_place};
+ghost use Rattle.answer_spec.specs.Potentials.{ArePotentials, root_place};
 ghost use Rattle.knuth_search.specs.Derived.{IsPotWithin, IsRootWithin};
 ghost use Rattle.knuth_search.specs.Settled.{ArePotentials as AreMachinePotentials};
 ghost use Rattle.machine_lift.specs.Lift.{IsMachineOf, IsRootAt};
 ghost use Rattle.potential_lift.specs.Lines.{AddsLine, AreLinesOf, AreWithin};
 
-use answer_text::{PotLine, PotList, RootName};
+use answer_spec::{PotLine, PotList, RootName};
 use machine_build::Built;
 use ml_base::{NoMemory, Root};
 use segment_grammar::{Pot, Potentials};

@@ -1,8 +1,9 @@
 -- The text of what is printed.
 use Rattle.std.specs.Prelude.{ℕ, List}
 use Rattle.std.specs.List.{concat}
-use Rattle.domain_config.specs.Lines.{text_of}
-use Rattle.answer_text.specs.Spelling.{lines_of, IsWellFormed}
+use Rattle.line_text.specs.Lines.{text_of}
+use Rattle.answer_text.specs.Spelling.{lines_of}
+use Rattle.answer_spec.specs.WellFormed.{IsWellFormed}
 use Rattle.replies.specs.declared.page.Source.{Source}
 use Rattle.replies.specs.declared.page.Source.TheVariants.{Kept, Document}
 

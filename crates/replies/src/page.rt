@@ -2,13 +2,14 @@
 ghost use Rattle.std.specs.Prelude.{◌≡◌, ◌≤◌, OnOk, OnErr};
 ghost use Rattle.std.specs.List.{concat};
 ghost use Rattle.std.specs.Io.KnownBytes.{Appends};
-ghost use Rattle.domain_config.specs.Lines.{text_of};
-ghost use Rattle.answer_text.specs.Spelling.{lines_of, IsWellFormed};
+ghost use Rattle.line_text.specs.Lines.{text_of};
+ghost use Rattle.answer_text.specs.Spelling.{lines_of};
+ghost use Rattle.answer_spec.specs.WellFormed.{IsWellFormed};
 ghost use Rattle.io_edges.specs.Counts.{Rose};
 ghost use Rattle.io_edges.specs.Stores.{AppendsFront};
 
 use crate::text::{Text, Texts};
-use answer_text::Answer;
+use answer_spec::Answer;
 use io_edges::{Failed, Sink, write_all};
 use std::marker::Model;
 

@@ -7,7 +7,7 @@ use Rattle.std.proofs.lemmas.List.{length-set, get_or-set_same, get_or-set_other
 use Rattle.std.proofs.lemmas.List.Sums.{sum_by-append}
 use Rattle.std.proofs.lemmas.Option.{slice_get_within, get_or_from_slice_get, slice_get-get_or}
 use Rattle.circuit_spec.specs.declared.hops.Hop.{Hop}
-use Rattle.domain_config.specs.declared.rules.Rule.{Rule}
+use Rattle.device_rules.specs.declared.rules.Rule.{Rule}
 use Rattle.rule_replay.specs.declared.slots.Slot.{Slot}
 use Rattle.rule_replay.specs.declared.slots.Slot.TheVariants.{Missing, One, Several}
 use Rattle.rule_replay.specs.Replaying.{IsFirstMisnumbered, count_of}

@@ -14,23 +14,24 @@ use Rattle.circuit_spec.specs.declared.hops.Request.{Request}
 use Rattle.circuit_spec.specs.Flags.{flags_after}
 use Rattle.circuit_spec.specs.Network.{Topology, Port}
 use Rattle.circuit_spec.specs.Steps.{Ends, Joins, Walk, unit_at}
-use Rattle.domain_config.specs.declared.rules.Rule.{Rule}
-use Rattle.domain_config.specs.Lines.{text_of}
-use Rattle.domain_config.specs.Numbering.{numbered}
-use Rattle.domain_config.proofs.LineLaws.{text_read}
+use Rattle.device_rules.specs.declared.rules.Rule.{Rule}
+use Rattle.line_text.specs.Lines.{text_of}
+use Rattle.device_rules.specs.Numbering.{numbered}
+use Rattle.line_text.proofs.LineLaws.{text_read}
 use Rattle.table_replay.specs.Forwarding.{ForwardsFrom, arrived}
 use Rattle.table_replay.specs.Walked.{AreRulesInAnyOrder, AreUnflagged, AreUnset}
 use Rattle.table_replay.proofs.Places.{make_place}
 use Rattle.table_replay.proofs.Plain.{plain_forwarded}
-use Rattle.answer_text.specs.declared.answer.Answer.{Answer}
-use Rattle.answer_text.specs.Arriving.{start_of}
-use Rattle.answer_text.specs.Certificate.{AreFlagged, first_place}
+use Rattle.answer_spec.specs.declared.answer.Answer.{Answer}
+use Rattle.answer_spec.specs.Arriving.{start_of}
+use Rattle.answer_spec.specs.Certificate.{AreFlagged, first_place}
 use Rattle.answer_text.specs.Document.{answer_in}
-use Rattle.answer_text.specs.Exact.{AreHopsOf, IsExactAnswer}
+use Rattle.answer_spec.specs.Exact.{AreHopsOf, IsExactAnswer}
 use Rattle.answer_text.specs.Reading.{Nothing, answer_step, answer_end}
-use Rattle.answer_text.specs.Spelling.{IsWellFormed, lines_of}
+use Rattle.answer_spec.specs.WellFormed.{IsWellFormed}
+use Rattle.answer_text.specs.Spelling.{lines_of}
 use Rattle.answer_text.proofs.AnswerLaws.{document_only, lines_whole}
-use Rattle.answer_text.proofs.Carried.{begins_with}
+use Rattle.answer_spec.proofs.Carried.{begins_with}
 use Rattle.rule_replay.specs.declared.replayed.Replayed.TheVariants.{Carried}
 use Rattle.rule_replay.specs.Laws.{IsForwardedToo, are_unset, end_of}
 use Rattle.rule_replay.specs.Replaying.{AreByNumber, IsFound, IsReplayed, IsUnflagged, Spells}

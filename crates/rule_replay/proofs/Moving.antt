@@ -5,8 +5,8 @@ use Rattle.std.specs.List.{Contains, remove}
 use Rattle.std.specs.List.Sorted.{IsPermutation}
 use Rattle.std.proofs.lemmas.List.Sorted.{Contains-permutation, IsPermutation-cons, IsPermutation-refl, IsPermutation-remove, IsPermutation-sym, IsPermutation-trans, length_permutation}
 use Rattle.circuit_spec.specs.declared.hops.Hop.{Hop}
-use Rattle.domain_config.specs.declared.rules.Rule.{Rule}
-use Rattle.domain_config.specs.Numbering.{numbered}
+use Rattle.device_rules.specs.declared.rules.Rule.{Rule}
+use Rattle.device_rules.specs.Numbering.{numbered}
 use Rattle.table_replay.proofs.Places.{contains_cases}
 use Rattle.rule_replay.specs.Replaying.{AreByNumber}
 use Rattle.rule_replay.specs.Slots.{AreFirstByNumber, HasRule}

@@ -8,8 +8,8 @@ use Rattle.std.proofs.lemmas.List.Elements.{Contains-append_left, Contains-appen
 use Rattle.std.proofs.lemmas.List.Sorted.{Contains-permutation, IsPermutation-map, IsPermutation-sym, IsPermutation-trans, length_permutation, sum_by-IsPermutation}
 use Rattle.std.proofs.lemmas.List.Sums.{sum_by-append}
 use Rattle.circuit_spec.specs.declared.hops.Hop.{Hop}
-use Rattle.domain_config.specs.declared.rules.Rule.{Rule}
-use Rattle.domain_config.specs.Numbering.{numbered}
+use Rattle.device_rules.specs.declared.rules.Rule.{Rule}
+use Rattle.device_rules.specs.Numbering.{numbered}
 use Rattle.table_replay.proofs.Places.{contains_cases}
 use Rattle.rule_replay.specs.Replaying.{AreByNumber, IsFirstMisnumbered, count_of}
 

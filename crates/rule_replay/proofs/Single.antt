@@ -13,11 +13,11 @@ use Rattle.packet_replay.specs.declared.faults.StepFault.{StepFault}
 use Rattle.packet_replay.specs.declared.faults.StepFault.TheVariants as step
 use Rattle.packet_replay.proofs.Refusing.{one_refusal, refusal_tells}
 use Rattle.packet_replay.proofs.Stepping.{one_next}
-use Rattle.domain_config.specs.Lines.{text_of}
-use Rattle.answer_text.specs.declared.answer.Answer.{Answer}
-use Rattle.answer_text.specs.Certificate.{AreCarried, first_place}
+use Rattle.line_text.specs.Lines.{text_of}
+use Rattle.answer_spec.specs.declared.answer.Answer.{Answer}
+use Rattle.answer_spec.specs.Certificate.{AreCarried, first_place}
 use Rattle.answer_text.specs.Spelling.{lines_of}
-use Rattle.answer_text.proofs.Carried.{walk_carried}
+use Rattle.answer_spec.proofs.Carried.{walk_carried}
 use Rattle.rule_replay.specs.declared.replayed.Replayed.{Replayed as WhatIsTold}
 use Rattle.rule_replay.specs.declared.replayed.Replayed.TheVariants.{Carried, NotCarried}
 use Rattle.rule_replay.specs.declared.replayed.ReplayCause.{ReplayCause}

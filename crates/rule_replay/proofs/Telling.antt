@@ -15,9 +15,9 @@ use Rattle.circuit_spec.specs.Segments.{unit_in}
 use Rattle.circuit_spec.specs.Steps.{IsAllowed, Run, Walk, unit_at}
 use Rattle.circuit_spec.proofs.ClassLemmas.{First-unique, class_of_itself}
 use Rattle.table_replay.specs.Walked.{AreUnset}
-use Rattle.answer_text.specs.declared.answer.Answer.{Answer}
-use Rattle.answer_text.specs.Certificate.{AreCarried, first_place}
-use Rattle.answer_text.proofs.Carried.{arrived, ends_allowed}
+use Rattle.answer_spec.specs.declared.answer.Answer.{Answer}
+use Rattle.answer_spec.specs.Certificate.{AreCarried, first_place}
+use Rattle.answer_spec.proofs.Carried.{arrived, ends_allowed}
 use Rattle.rule_replay.specs.declared.replayed.Replayed.{Replayed as WhatIsTold}
 use Rattle.rule_replay.specs.declared.replayed.Replayed.TheVariants.{Carried, NotCarried}
 use Rattle.rule_replay.specs.declared.replayed.ReplayCause.{ReplayCause}

@@ -4,7 +4,7 @@ use Rattle.std.specs.Prelude.{◌↔◌}
 use Rattle.circuit_spec.specs.declared.hops.Hop.{Hop}
 use Rattle.circuit_spec.specs.Network.{Topology}
 use Rattle.circuit_spec.specs.Steps.{Walk}
-use Rattle.answer_text.specs.declared.answer.Answer.{Answer}
+use Rattle.answer_spec.specs.declared.answer.Answer.{Answer}
 use Rattle.rule_replay.specs.declared.replayed.Replayed.{Replayed as WhatIsTold}
 use Rattle.rule_replay.specs.declared.replayed.Replayed.TheVariants.{Carried, NotCarried}
 use Rattle.rule_replay.specs.Laws.{Carries}

@@ -9,10 +9,10 @@ use Rattle.circuit_spec.specs.Network.{Topology, Port, IsClass}
 use Rattle.circuit_spec.specs.Segments.{unit_in}
 use Rattle.circuit_spec.specs.Steps.{Run, Step, Walk}
 use Rattle.packet_replay.specs.Carried.{Carried as CarriedUnit}
-use Rattle.domain_config.specs.declared.rules.Rule.{Rule}
+use Rattle.device_rules.specs.declared.rules.Rule.{Rule}
 use Rattle.table_replay.specs.Forwarding.{place_of}
 use Rattle.table_replay.specs.Walked.{AreUnset}
-use Rattle.answer_text.specs.Certificate.{AreCarried, first_place}
+use Rattle.answer_spec.specs.Certificate.{AreCarried, first_place}
 use Rattle.rule_replay.specs.declared.carrying.Carry.{Carry}
 use Rattle.rule_replay.specs.declared.carrying.Carry.TheVariants.{Through, Refused}
 use Rattle.rule_replay.specs.declared.replayed.Replayed.{Replayed as WhatIsTold}

@@ -7,10 +7,10 @@ use Rattle.circuit_spec.specs.declared.hops.PlaceName.{PlaceName}
 use Rattle.circuit_spec.specs.declared.hops.Request.{Request}
 use Rattle.circuit_spec.specs.Network.{Topology}
 use Rattle.circuit_spec.specs.Steps.{Ends, Joins}
-use Rattle.domain_config.specs.declared.rules.Rule.{Rule}
+use Rattle.device_rules.specs.declared.rules.Rule.{Rule}
 use Rattle.table_replay.specs.Forwarding.{ForwardsFrom, arrived}
-use Rattle.answer_text.specs.declared.answer.Answer.{Answer}
-use Rattle.answer_text.specs.Arriving.{start_of}
+use Rattle.answer_spec.specs.declared.answer.Answer.{Answer}
+use Rattle.answer_spec.specs.Arriving.{start_of}
 use Rattle.rule_replay.specs.declared.replayed.Replayed.{Replayed as WhatIsTold}
 use Rattle.rule_replay.specs.declared.replayed.Replayed.TheVariants.{Carried, NotCarried}
 use Rattle.rule_replay.specs.Replaying.{IsOrdered}

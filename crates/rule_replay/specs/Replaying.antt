@@ -20,13 +20,14 @@ use Rattle.circuit_spec.specs.Segments.{unit_in}
 use Rattle.circuit_spec.specs.Steps.{Run, Walk}
 use Rattle.packet_replay.specs.declared.faults.StepFault.TheVariants as step
 use Rattle.packet_replay.specs.Conditions.{IsRefused}
-use Rattle.domain_config.specs.declared.rules.Rule.{Rule}
-use Rattle.domain_config.specs.Lines.{text_of}
-use Rattle.domain_config.specs.Numbering.{numbered}
+use Rattle.device_rules.specs.declared.rules.Rule.{Rule}
+use Rattle.line_text.specs.Lines.{text_of}
+use Rattle.device_rules.specs.Numbering.{numbered}
 use Rattle.table_replay.specs.Walked.{AreUnflagged}
-use Rattle.answer_text.specs.declared.answer.Answer.{Answer}
-use Rattle.answer_text.specs.Certificate.{AreCarried, first_place}
-use Rattle.answer_text.specs.Spelling.{IsWellFormed, lines_of}
+use Rattle.answer_spec.specs.declared.answer.Answer.{Answer}
+use Rattle.answer_spec.specs.Certificate.{AreCarried, first_place}
+use Rattle.answer_spec.specs.WellFormed.{IsWellFormed}
+use Rattle.answer_text.specs.Spelling.{lines_of}
 use Rattle.rule_replay.specs.declared.replayed.Replayed.{Replayed as WhatIsTold}
 use Rattle.rule_replay.specs.declared.replayed.Replayed.TheVariants.{Carried, NotCarried}
 use Rattle.rule_replay.specs.declared.replayed.ReplayCause.TheVariants as cause

@@ -2,7 +2,7 @@
 use Rattle.std.specs.Prelude.{◌≡◌, ◌≢◌, ℕ, ◌+◌, ◌<◌, List, [], ◌∷◌, ◌++◌, Bool, true, false, Some, length, slice_get}
 use Rattle.std.specs.List.{Contains}
 use Rattle.circuit_spec.specs.declared.hops.Hop.{Hop}
-use Rattle.domain_config.specs.declared.rules.Rule.{Rule}
+use Rattle.device_rules.specs.declared.rules.Rule.{Rule}
 use Rattle.rule_replay.specs.declared.slots.Numbering.{Numbering}
 use Rattle.rule_replay.specs.declared.slots.Numbering.TheVariants.{Hops, Misnumbered}
 use Rattle.rule_replay.specs.declared.slots.Slot.{Slot}

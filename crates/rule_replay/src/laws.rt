@@ -2,10 +2,11 @@ ghost use Rattle.std.specs.Prelude.{◌≡◌, ◌↔◌, ℕ, List, length, tru
 ghost use Rattle.circuit_spec.specs.declared.hops.Hop.{Hop};
 ghost use Rattle.circuit_spec.specs.Network.{Topology};
 ghost use Rattle.circuit_spec.specs.Steps.{Walk};
-ghost use Rattle.domain_config.specs.Lines.{text_of};
-ghost use Rattle.answer_text.specs.declared.answer.Answer.{Answer};
-ghost use Rattle.answer_text.specs.Exact.{IsExactAnswer};
-ghost use Rattle.answer_text.specs.Spelling.{IsWellFormed, lines_of};
+ghost use Rattle.line_text.specs.Lines.{text_of};
+ghost use Rattle.answer_spec.specs.declared.answer.Answer.{Answer};
+ghost use Rattle.answer_spec.specs.Exact.{IsExactAnswer};
+ghost use Rattle.answer_spec.specs.WellFormed.{IsWellFormed};
+ghost use Rattle.answer_text.specs.Spelling.{lines_of};
 ghost use Rattle.rule_replay.specs.declared.replayed.Replayed.{Replayed as WhatIsTold};
 ghost use Rattle.rule_replay.specs.declared.replayed.Replayed.TheVariants.{Carried};
 ghost use Rattle.rule_replay.specs.Laws.{Carries, IsForwardedToo, are_unset};

@@ -1,6 +1,6 @@
 ghost use Rattle.std.specs.Prelude.{◌≡◌, ℕ, List, [], IfOk, IsTrue, ◌↔◌};
 ghost use Rattle.circuit_spec.specs.Faults.{IsKnown, IsSound};
-ghost use Rattle.answer_text.specs.Certificate.{first_label};
+ghost use Rattle.answer_spec.specs.Certificate.{first_label};
 ghost use Rattle.rule_replay.specs.Carrying.{IsFirstPlace, IsToldOfHops};
 ghost use Rattle.rule_replay.specs.Replaying.{IsAsked, IsFound, IsReplayed, Spells};
 
@@ -8,7 +8,8 @@ use crate::carrying::{Carry, are_apart, carry_unit};
 use crate::known::{class_of, is_at_end, is_known, serves_both};
 use crate::replayed::{ReplayCause, Replayed};
 use crate::slots::{Numbering, number_hops};
-use answer_text::{Answer, TextFault, read};
+use answer_spec::Answer;
+use answer_text::{TextFault, read};
 use circuit_spec::{HopList, Outcome, PlaceName, Request};
 use ml_base::{NoMemory, Tag, Wish};
 use nml_inventory::Inventory;

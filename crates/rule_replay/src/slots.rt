@@ -2,7 +2,7 @@ ghost use Rattle.std.specs.Prelude.{◌≡◌, ◌<◌, ◌+◌, ℕ, IfOk, leng
 ghost use Rattle.rule_replay.specs.Slots.{AddsHop, AreNoted, IsNumbering, Notes, slot_with};
 
 use circuit_spec::HopList;
-use domain_config::{Rule, RuleList};
+use device_rules::{Rule, RuleList};
 use ml_base::NoMemory;
 use std::alloc::Global;
 

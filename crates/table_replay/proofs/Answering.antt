@@ -7,7 +7,7 @@ use Rattle.circuit_spec.specs.declared.hops.Unit.{Unit as DataUnit}
 use Rattle.circuit_spec.specs.Network.{Topology}
 use Rattle.circuit_spec.specs.Segments.{unit_in}
 use Rattle.packet_replay.proofs.Stepping.{one_next}
-use Rattle.domain_config.specs.declared.rules.Rule.{Rule}
+use Rattle.device_rules.specs.declared.rules.Rule.{Rule}
 use Rattle.table_replay.specs.declared.fault.ForwardFault.{ForwardFault}
 use Rattle.table_replay.specs.declared.fault.ForwardFault.TheVariants as why
 use Rattle.table_replay.specs.Forwarding.{Answers, Ending, Forwards, ForwardsFrom, IsFault, arrived, place_of, stopped}

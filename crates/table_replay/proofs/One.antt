@@ -7,7 +7,7 @@ use Rattle.circuit_spec.specs.declared.hops.Unit.{Unit as DataUnit}
 use Rattle.circuit_spec.specs.Network.{Topology, Port, Linked, ports}
 use Rattle.circuit_spec.specs.Steps.{Step}
 use Rattle.circuit_spec.proofs.ClassLemmas.{First-unique}
-use Rattle.domain_config.specs.declared.rules.Rule.{Rule}
+use Rattle.device_rules.specs.declared.rules.Rule.{Rule}
 use Rattle.table_replay.specs.declared.fault.ForwardFault.{ForwardFault}
 use Rattle.table_replay.specs.declared.fault.ForwardFault.TheVariants as why
 use Rattle.table_replay.specs.Forwarding.{AreLeaving, Ending, EndsBy, Forwards, GoesOn, IsAwayAnew, LeavesFrom, Stops, arrived, place_of, stopped}

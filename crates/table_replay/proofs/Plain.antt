@@ -12,7 +12,7 @@ use Rattle.circuit_spec.specs.Network.{Topology, Port, Linked, ports}
 use Rattle.circuit_spec.specs.Steps.{Run, Step}
 use Rattle.circuit_spec.specs.Segments.{unit_in}
 use Rattle.circuit_spec.proofs.ClassLemmas.{First-unique}
-use Rattle.domain_config.specs.declared.rules.Rule.{Rule}
+use Rattle.device_rules.specs.declared.rules.Rule.{Rule}
 use Rattle.table_replay.specs.Forwarding.{AreLeaving, Forwards, GoesOn, arrived, place_of}
 use Rattle.table_replay.specs.Walked.{AreUnset, AreRulesInAnyOrder, IsPlainWalk}
 use Rattle.table_replay.proofs.Places.{contains_cases, make_place, not_found}

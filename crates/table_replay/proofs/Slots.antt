@@ -10,7 +10,7 @@ use Rattle.circuit_spec.proofs.ClassLemmas.{First-unique}
 use Rattle.nml_inventory.specs.Aliases.{IsClassNumber}
 use Rattle.nml_inventory.specs.Numbers.{port_number}
 use Rattle.packet_replay.proofs.Named.{end_found, one_of_some}
-use Rattle.domain_config.specs.declared.rules.Rule.{Rule}
+use Rattle.device_rules.specs.declared.rules.Rule.{Rule}
 use Rattle.table_replay.specs.declared.table.Slot.{Slot}
 use Rattle.table_replay.specs.declared.table.Slot.TheVariants.{One, Several}
 use Rattle.table_replay.specs.Forwarding.{AreLeaving, LeavesFrom}

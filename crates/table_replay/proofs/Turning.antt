@@ -14,7 +14,7 @@ use Rattle.circuit_spec.specs.declared.hops.Unit.{Unit as DataUnit}
 use Rattle.circuit_spec.specs.Network.{Topology, Port}
 use Rattle.circuit_spec.specs.Steps.{Rule as HopRule, Step, frame_of}
 use Rattle.packet_replay.specs.Carried.{Carried}
-use Rattle.domain_config.specs.declared.rules.Rule.{Rule}
+use Rattle.device_rules.specs.declared.rules.Rule.{Rule}
 use Rattle.table_replay.specs.declared.fault.ForwardFault.TheVariants as why
 use Rattle.table_replay.specs.declared.table.Slot.{Slot}
 use Rattle.table_replay.specs.declared.table.Slot.TheVariants.{One, Several}

@@ -12,7 +12,7 @@ use Rattle.circuit_spec.specs.declared.hops.Unit.{Unit as DataUnit}
 use Rattle.circuit_spec.specs.Network.{Topology, Port, IsClass}
 use Rattle.circuit_spec.specs.Steps.{Step}
 use Rattle.circuit_spec.specs.Segments.{unit_in}
-use Rattle.domain_config.specs.declared.rules.Rule.{Rule}
+use Rattle.device_rules.specs.declared.rules.Rule.{Rule}
 use Rattle.table_replay.specs.declared.fault.ForwardFault.{ForwardFault}
 use Rattle.table_replay.specs.declared.fault.ForwardFault.TheVariants as why
 

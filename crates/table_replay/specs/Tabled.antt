@@ -7,7 +7,7 @@ use Rattle.circuit_spec.specs.declared.hops.PlaceName.{PlaceName}
 use Rattle.circuit_spec.specs.declared.hops.Unit.{Unit as DataUnit}
 use Rattle.circuit_spec.specs.Network.{Topology, Port, IsClass}
 use Rattle.circuit_spec.specs.Flags.{same_place}
-use Rattle.domain_config.specs.declared.rules.Rule.{Rule}
+use Rattle.device_rules.specs.declared.rules.Rule.{Rule}
 use Rattle.table_replay.specs.declared.table.Slot.{Slot}
 use Rattle.table_replay.specs.declared.table.Slot.TheVariants.{One, Several}
 use Rattle.packet_replay.specs.Carried.{Carried}

@@ -8,7 +8,7 @@ use Rattle.circuit_spec.specs.Network.{Topology}
 use Rattle.circuit_spec.specs.Flags.{AreFlags}
 use Rattle.circuit_spec.specs.Steps.{Run}
 use Rattle.circuit_spec.specs.Segments.{unit_in}
-use Rattle.domain_config.specs.declared.rules.Rule.{Rule}
+use Rattle.device_rules.specs.declared.rules.Rule.{Rule}
 
 -- no flag is set
 abbrev pub AreUnset : List (Option ℕ) → Type 0

@@ -7,7 +7,7 @@ ghost use Rattle.table_replay.specs.Walked.{AreRulesInAnyOrder, IsPlainWalk};
 use crate::fault::ForwardFault;
 use crate::way::Way;
 use circuit_spec::{HopList, PlaceName};
-use domain_config::RuleList;
+use device_rules::RuleList;
 use nml_inventory::Inventory;
 use std::alloc::Global;
 

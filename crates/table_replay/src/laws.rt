@@ -2,7 +2,7 @@ ghost use Rattle.std.specs.Prelude.{◌≡◌, List};
 ghost use Rattle.circuit_spec.specs.declared.hops.Hop.{Hop};
 ghost use Rattle.circuit_spec.specs.declared.hops.PlaceName.{PlaceName};
 ghost use Rattle.circuit_spec.specs.Network.{Topology};
-ghost use Rattle.domain_config.specs.declared.rules.Rule.{Rule};
+ghost use Rattle.device_rules.specs.declared.rules.Rule.{Rule};
 ghost use Rattle.table_replay.specs.Forwarding.{Ending, ForwardsFrom, arrived};
 ghost use Rattle.table_replay.specs.Walked.{AreRulesInAnyOrder, IsPlainWalk};
 

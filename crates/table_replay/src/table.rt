@@ -4,7 +4,7 @@ ghost use Rattle.circuit_spec.specs.declared.hops.PlaceName.{PlaceName as Place}
 ghost use Rattle.table_replay.specs.Tabled.{AddsRule, AreSlots, IsLeavingPlace, slot_at, slot_with};
 
 use circuit_spec::{Hop, PlaceName};
-use domain_config::Rule;
+use device_rules::Rule;
 use ml_base::NoMemory;
 use nml_inventory::Inventory;
 use std::alloc::Global;

@@ -2,8 +2,8 @@ ghost use Rattle.std.specs.Prelude.{IfOk};
 ghost use Rattle.circuit_spec.specs.Faults.{IsSound};
 
 use crate::{ForwardFault, forward};
-use circuit_spec::{HopList, PlaceName};
-use domain_config::{RuleList, read_rules};
+use circuit_spec::{Hop, HopKind, HopList, PlaceName};
+use device_rules::{RuleList, rules_of};
 use layer_check::check;
 use ml_base::{Id, IdFault};
 use nml_elements::{DomainList, read_domain};
@@ -23,15 +23,47 @@ const AGAIN: &str =
 const ZERO: &str =
     "{\"elements\":[{\"id\":\"a\",\"isSink\":[\"l2\"],\"isSource\":[\"l1\"],\"type\":\"Port\"},{\"id\":\"b\",\"isSink\":[\"l1\"],\"isSource\":[\"l2\",\"l3\"],\"type\":\"Port\"},{\"id\":\"c\",\"isSink\":[\"l3\"],\"type\":\"Port\"},{\"cost\":0,\"id\":\"l1\",\"type\":\"Link\"},{\"cost\":0,\"id\":\"l2\",\"type\":\"Link\"},{\"cost\":0,\"id\":\"l3\",\"type\":\"Link\"}],\"format\":1,\"topology\":\"d\"}";
 
-const ONE_RULES: &str = "domain d\nrule 1 carry l a - b -\n";
+/// A kind, and the ids of the element and of the two ends.
+type Taken = (HopKind, [&'static str; 3]);
 
-const TUNNEL_RULES: &str =
-    "domain d\nrule 1 wrap ad c1 - s1 -\nrule 2 carry t s1 - s2 -\nrule 3 unwrap de s2 - c2 -\n";
+const ONE_HOPS: &[Taken] = &[(HopKind::Link, ["l", "a", "b"])];
 
-const AGAIN_RULES: &str =
-    "domain d\nrule 1 wrap f x1 - x0 -\nrule 2 carry l x0 - y0 -\nrule 3 unwrap u y0 - m1 -\nrule 4 wrap g m1 - x0 -\nrule 5 carry l x0 - y0 -\nrule 6 unwrap v y0 - y1 -\n";
+const TUNNEL_HOPS: &[Taken] = &[
+    (HopKind::Adapt, ["ad", "c1", "s1"]),
+    (HopKind::Link, ["t", "s1", "s2"]),
+    (HopKind::Deadapt, ["de", "s2", "c2"]),
+];
 
-const ZERO_RULES: &str = "domain d\nrule 1 carry l1 a - b -\nrule 2 carry l2 b - a -\n";
+const AGAIN_HOPS: &[Taken] = &[
+    (HopKind::Adapt, ["f", "x1", "x0"]),
+    (HopKind::Link, ["l", "x0", "y0"]),
+    (HopKind::Deadapt, ["u", "y0", "m1"]),
+    (HopKind::Adapt, ["g", "m1", "x0"]),
+    (HopKind::Link, ["l", "x0", "y0"]),
+    (HopKind::Deadapt, ["v", "y0", "y1"]),
+];
+
+const ZERO_HOPS: &[Taken] = &[
+    (HopKind::Link, ["l1", "a", "b"]),
+    (HopKind::Link, ["l2", "b", "a"]),
+];
+
+/// The rules of hops without labels, in one domain.
+fn rules_for(alloc: Global, taken: &[Taken]) -> Result<RuleList, Fail> {
+    let mut hops = HopList::new(alloc);
+    for (kind, [element, from, to]) in taken {
+        hops.push(Hop {
+            kind: *kind,
+            element: Id::new(alloc, element)?,
+            from: Id::new(alloc, from)?,
+            from_label: None,
+            to: Id::new(alloc, to)?,
+            to_label: None,
+            domain: Id::new(alloc, "d")?,
+        })?;
+    }
+    Ok(rules_of(alloc, &hops)?)
+}
 
 /// A sound topology of one file.
 fn inventory_of(alloc: Global, text: &str) -> Result<Inventory, Fail>
@@ -87,15 +119,15 @@ fn hops_over(
     hops_of(alloc, &inventory, rules, start, target)
 }
 
-/// The same with the rules of a text.
+/// The same with the rules of these hops.
 fn hops(
     alloc: Global,
     topology: &str,
-    rules: &str,
+    taken: &[Taken],
     start: &str,
     target: &str,
 ) -> Result<Result<u64, ForwardFault>, Fail> {
-    let rules = read_rules(alloc, rules.as_bytes())?;
+    let rules = rules_for(alloc, taken)?;
     hops_over(alloc, topology, &rules, start, target)
 }
 
@@ -113,7 +145,7 @@ fn said(fault: &ForwardFault) -> (&str, &str, u64) {
 
 #[test]
 fn rules_carry(rt: HostRuntime) -> Result<(), Fail> {
-    let taken = hops(rt.alloc(), ONE, ONE_RULES, "a", "b")?;
+    let taken = hops(rt.alloc(), ONE, ONE_HOPS, "a", "b")?;
     assert_eq!(rt; taken, Ok(1));
     Ok(())
 }
@@ -121,14 +153,14 @@ fn rules_carry(rt: HostRuntime) -> Result<(), Fail> {
 #[test]
 fn rules_stop(rt: HostRuntime) -> Result<(), Fail> {
     let rows = [
-        (ONE, "", "a", "b", ("no rule", "a", 0)),
-        (AGAIN, AGAIN_RULES, "x1", "y1", ("two rules", "x0", 0)),
-        (ZERO, ZERO_RULES, "a", "c", ("loop", "a", 0)),
-        (TUNNEL, TUNNEL_RULES, "c1", "s2", ("left", "", 1)),
-        (TUNNEL, TUNNEL_RULES, "s2", "c2", ("step", "s2", 0)),
+        (ONE, [].as_slice(), "a", "b", ("no rule", "a", 0)),
+        (AGAIN, AGAIN_HOPS, "x1", "y1", ("two rules", "x0", 0)),
+        (ZERO, ZERO_HOPS, "a", "c", ("loop", "a", 0)),
+        (TUNNEL, TUNNEL_HOPS, "c1", "s2", ("left", "", 1)),
+        (TUNNEL, TUNNEL_HOPS, "s2", "c2", ("step", "s2", 0)),
     ];
-    for (topology, rules, start, target, want) in rows {
-        let stopped = hops(rt.alloc(), topology, rules, start, target)?;
+    for (topology, taken, start, target, want) in rows {
+        let stopped = hops(rt.alloc(), topology, taken, start, target)?;
         assert_eq!(rt; stopped.as_ref().err().map(said), Some(want));
     }
     Ok(())

@@ -7,7 +7,7 @@ ghost use Rattle.table_replay.specs.Tabled.{Arrives, IsReady, Meets, Moves, Stop
 use crate::fault::ForwardFault;
 use crate::table::{Slot, Table, table_of};
 use circuit_spec::{FrameList, Hop, HopList, PlaceName, Unit};
-use domain_config::RuleList;
+use device_rules::RuleList;
 use indexmap::IndexSet;
 use ml_base::NoMemory;
 use nml_inventory::Inventory;

@@ -3,7 +3,7 @@ use Rattle.std.proofs.Common.{◌≡◌, ◌+◌, ◌<◌, ◌≤◌, ℕ, Bool,
 use Rattle.std.specs.Prelude.{nat_le}
 use Rattle.std.proofs.lemmas.Bool.Decides.{nat_tests}
 use Rattle.circuit_spec.specs.Network.{Topology}
-use Rattle.answer_text.specs.declared.answer.Answer.{Answer}
+use Rattle.answer_spec.specs.declared.answer.Answer.{Answer}
 use Rattle.verdict.specs.declared.rules.Rule.{Rule}
 use Rattle.verdict.specs.declared.rules.Rule.TheVariants as rule
 use Rattle.verdict.specs.Rules.{number, Passes, PassWithin}

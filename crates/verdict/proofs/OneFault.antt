@@ -9,12 +9,13 @@ use Rattle.circuit_spec.specs.Network.{Topology, Port}
 use Rattle.circuit_spec.specs.Steps.{Run}
 use Rattle.circuit_spec.specs.Flags.{AreFlags, Enters, flags_after}
 use Rattle.circuit_spec.specs.Segments.{unit_in}
-use Rattle.domain_config.specs.declared.rules.Rule.{Rule as DeviceRule}
-use Rattle.domain_config.specs.Rules.{Start, rule_lines}
-use Rattle.domain_config.specs.Numbering.{AreRulesOf}
-use Rattle.answer_text.specs.declared.answer.Answer.{Answer}
-use Rattle.answer_text.specs.declared.answer.PotLine.{PotLine}
-use Rattle.answer_text.specs.Certificate.{Certificate, AreCarried, AreFlagged, first_place, RootIsListed}
+use Rattle.device_rules.specs.declared.rules.Rule.{Rule as DeviceRule}
+use Rattle.device_rules.specs.Rules.{Start}
+use Rattle.domain_config.specs.Rules.{rule_lines}
+use Rattle.device_rules.specs.Numbering.{AreRulesOf}
+use Rattle.answer_spec.specs.declared.answer.Answer.{Answer}
+use Rattle.answer_spec.specs.declared.answer.PotLine.{PotLine}
+use Rattle.answer_spec.specs.Certificate.{Certificate, AreCarried, AreFlagged, first_place, RootIsListed}
 use Rattle.verdict.specs.declared.rules.Rule.{Rule}
 use Rattle.verdict.specs.declared.rules.Rule.TheVariants as rule
 use Rattle.verdict.specs.Rules.{number, Passes, PassWithin}

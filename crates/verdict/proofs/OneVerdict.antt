@@ -3,11 +3,12 @@ use Rattle.std.proofs.Common.{◌≡◌, ◌+◌, ℕ, inl, inr, List, [], ◌�
 use Rattle.std.proofs.lemmas.List.{append_cancel_left}
 use Rattle.circuit_spec.specs.Network.{Topology}
 use Rattle.circuit_spec.proofs.Ends.{Behind, splits}
-use Rattle.domain_config.specs.Lines.{Line, IsFirstMisfit, IsFront, Misfits, pieces, text_of}
-use Rattle.domain_config.proofs.Words.{pieces_again}
-use Rattle.answer_text.specs.declared.answer.Answer.{Answer}
-use Rattle.answer_text.specs.Certificate.{Certificate}
-use Rattle.answer_text.specs.Spelling.{IsWellFormed, IsDocument, lines_of}
+use Rattle.line_text.specs.Lines.{Line, IsFirstMisfit, IsFront, Misfits, pieces, text_of}
+use Rattle.line_text.proofs.Words.{pieces_again}
+use Rattle.answer_spec.specs.declared.answer.Answer.{Answer}
+use Rattle.answer_spec.specs.Certificate.{Certificate}
+use Rattle.answer_spec.specs.WellFormed.{IsWellFormed}
+use Rattle.answer_text.specs.Spelling.{IsDocument, lines_of}
 use Rattle.answer_text.proofs.AnswerLaws.{lines_whole}
 use Rattle.verdict.specs.declared.rules.Rule.{Rule}
 use Rattle.verdict.specs.declared.verdicts.Verdict.{Verdict}

@@ -13,10 +13,11 @@ use Rattle.std.proofs.lemmas.Slice.Eq.{bytes_eq-Decides}
 use Rattle.circuit_spec.specs.declared.hops.Hop.{Hop}
 use Rattle.circuit_spec.proofs.Among.{IsAmong}
 use Rattle.circuit_spec.proofs.Lists.{contains_among}
-use Rattle.domain_config.specs.declared.rules.Rule.{Rule}
-use Rattle.domain_config.specs.Fields.{Word}
-use Rattle.domain_config.specs.Rules.{Start, In, is_below, may_follow, AreInOrder}
-use Rattle.domain_config.specs.Numbering.{numbered, AreRulesOf}
+use Rattle.device_rules.specs.declared.rules.Rule.{Rule}
+use Rattle.line_text.specs.Fields.{Word}
+use Rattle.device_rules.specs.Rules.{Start, In, may_follow, AreInOrder}
+use Rattle.place_names.specs.Names.{is_below}
+use Rattle.device_rules.specs.Numbering.{numbered, AreRulesOf}
 
 -- ---- the order
 

@@ -3,9 +3,9 @@ use Rattle.std.specs.Prelude.{ℕ, ◌≤◌}
 use Rattle.std.specs.List.{All}
 use Rattle.circuit_spec.specs.Network.{Topology}
 use Rattle.circuit_spec.specs.Faults.{IsKnown}
-use Rattle.domain_config.specs.Numbering.{AreRulesOf}
-use Rattle.answer_text.specs.declared.answer.Answer.{Answer}
-use Rattle.answer_text.specs.Certificate.{AreCarried, Arrives, IsWeighed, AreFlagged, IsPlaced, BeginAtZero, IsExtended, IsOpened, IsNested, Agrees}
+use Rattle.device_rules.specs.Numbering.{AreRulesOf}
+use Rattle.answer_spec.specs.declared.answer.Answer.{Answer}
+use Rattle.answer_spec.specs.Certificate.{AreCarried, Arrives, IsWeighed, AreFlagged, IsPlaced, BeginAtZero, IsExtended, IsOpened, IsNested, Agrees}
 use Rattle.verdict.specs.declared.rules.Rule.{Rule}
 use Rattle.verdict.specs.declared.rules.Rule.TheVariants as rule
 

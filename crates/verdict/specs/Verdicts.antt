@@ -1,10 +1,11 @@
 -- The verdict on the bytes of a document.
 use Rattle.std.specs.Prelude.{◌≡◌, ◌⊎◌, ℕ, List}
 use Rattle.circuit_spec.specs.Network.{Topology}
-use Rattle.domain_config.specs.Lines.{text_of, IsFirstMisfit}
-use Rattle.answer_text.specs.declared.answer.Answer.{Answer}
-use Rattle.answer_text.specs.Spelling.{IsWellFormed, IsDocument, lines_of}
-use Rattle.answer_text.specs.Certificate.{Certificate}
+use Rattle.line_text.specs.Lines.{text_of, IsFirstMisfit}
+use Rattle.answer_spec.specs.declared.answer.Answer.{Answer}
+use Rattle.answer_spec.specs.WellFormed.{IsWellFormed}
+use Rattle.answer_text.specs.Spelling.{IsDocument, lines_of}
+use Rattle.answer_spec.specs.Certificate.{Certificate}
 use Rattle.verdict.specs.declared.rules.Rule.TheVariants as rule
 use Rattle.verdict.specs.declared.verdicts.Verdict.{Verdict}
 use Rattle.verdict.specs.declared.verdicts.Verdict.TheVariants.{Valid, NotValid}

@@ -1,9 +1,10 @@
 ghost use Rattle.std.specs.Prelude.{◌≡◌, ◌↔◌, ℕ, List};
 ghost use Rattle.circuit_spec.specs.Network.{Topology};
-ghost use Rattle.domain_config.specs.Lines.{text_of};
-ghost use Rattle.answer_text.specs.declared.answer.Answer.{Answer};
-ghost use Rattle.answer_text.specs.Certificate.{Certificate};
-ghost use Rattle.answer_text.specs.Spelling.{IsWellFormed, lines_of};
+ghost use Rattle.line_text.specs.Lines.{text_of};
+ghost use Rattle.answer_spec.specs.declared.answer.Answer.{Answer};
+ghost use Rattle.answer_spec.specs.Certificate.{Certificate};
+ghost use Rattle.answer_spec.specs.WellFormed.{IsWellFormed};
+ghost use Rattle.answer_text.specs.Spelling.{lines_of};
 ghost use Rattle.verdict.specs.declared.rules.Rule.{Rule};
 ghost use Rattle.verdict.specs.declared.rules.Rule.TheVariants as rule;
 ghost use Rattle.verdict.specs.declared.verdicts.Verdict.{Verdict};

@@ -1,6 +1,6 @@
 //! Which rule of a certificate fails, and at which line of the document.
 //!
-//! A certificate (`answer_text`) keeps twelve rules. With the grammar before them they are thirteen, and [`Rule`] numbers them. Of a
+//! A certificate (`answer_spec`) keeps twelve rules. With the grammar before them they are thirteen, and [`Rule`] numbers them. Of a
 //! document that is no certificate the least failing [`Rule`] is told, and the least line at which it fails. Contracts see
 //!
 //! - `Passes`: what each rule asks of an answer, and `Fails`: at which line it fails;

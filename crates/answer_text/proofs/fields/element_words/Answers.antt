@@ -1,7 +1,7 @@
 use Rattle.std.proofs.Common.{option_copied}
-use Rattle.domain_config.specs.Fields.{id_of}
-use Rattle.domain_config.specs.Cursor.{parts_of}
-use Rattle.domain_config.proofs.Taking.{and_both}
+use Rattle.line_text.specs.Fields.{id_of}
+use Rattle.line_text.specs.Cursor.{parts_of}
+use Rattle.line_text.proofs.Taking.{and_both}
 use Rattle.answer_text.specs.Views.{from_words_of}
 use Rattle.answer_text.proofs.fields.element_words.Goals as goal
 

@@ -1,7 +1,7 @@
 use Rattle.std.proofs.Common.{option_copied}
 use Rattle.std.proofs.lemmas.Result.{err_from_is_err_and}
-use Rattle.domain_config.specs.Cursor.{parts_of}
-use Rattle.domain_config.specs.Fields.{id_of, tag_of}
+use Rattle.line_text.specs.Cursor.{parts_of}
+use Rattle.line_text.specs.Fields.{id_of, tag_of}
 use Rattle.answer_text.specs.Reading.{weight_of}
 use Rattle.answer_text.proofs.Thrice.{fails_third, all_three}
 use Rattle.answer_text.proofs.fields.top_words.Goals as goal

@@ -1,7 +1,7 @@
 use Rattle.std.proofs.Common.{◌≡◌, ◌∙◌, ap, [], ◌∷◌, ◌++◌}
 use Rattle.std.specs.Prelude.{codes, decimal}
-use Rattle.domain_config.specs.Fields.{spaced, tag}
-use Rattle.domain_config.proofs.Writes.{then_word, then_words, then_all, then_end}
+use Rattle.line_text.specs.Fields.{spaced, tag}
+use Rattle.line_text.proofs.Writes.{then_word, then_words, then_all, then_end}
 use Rattle.answer_text.specs.Spelling.{kind_word, again_words}
 use Rattle.answer_text.proofs.making.make_hop_line.Goals as goal
 

@@ -1,5 +1,5 @@
 use Rattle.std.proofs.Common.{◌≡◌, ◌+◌, ◌≤◌, length}
-use Rattle.domain_config.specs.Lines.{adding}
+use Rattle.line_text.specs.Lines.{adding}
 use Rattle.answer_text.specs.Taking.{said_from, phase_of, behind_answer}
 use Rattle.answer_text.proofs.reading.read_body.Given as goal
 

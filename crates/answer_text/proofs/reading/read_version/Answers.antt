@@ -1,5 +1,5 @@
 use Rattle.std.proofs.Common.{◌∙◌, ap, Bool}
-use Rattle.domain_config.specs.Fields.{kept_if}
+use Rattle.line_text.specs.Fields.{kept_if}
 use Rattle.answer_text.specs.Reading.{Nothing, Version, same_answer}
 use Rattle.answer_text.proofs.Resumed.{leads_only}
 use Rattle.answer_text.proofs.reading.read_version.Goals as goal

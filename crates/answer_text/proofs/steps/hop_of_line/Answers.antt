@@ -1,6 +1,6 @@
 use Rattle.std.proofs.Common.{◌∙◌}
 use Rattle.std.specs.Prelude.{codes}
-use Rattle.domain_config.proofs.Numbers.{same_words}
+use Rattle.line_text.proofs.Numbers.{same_words}
 use Rattle.answer_text.specs.Reading.{hop_words_of}
 use Rattle.answer_text.specs.Views.{hop_view}
 use Rattle.answer_text.proofs.Keyed.{given_behind}

@@ -2,12 +2,14 @@ use Rattle.std.proofs.Common.{◌≡◌, ◌∙◌, refl, ℕ, List, [], ◌∷�
 use Rattle.std.specs.Prelude.{codes}
 use Rattle.std.specs.Io.KnownBytes.{Appends}
 use Rattle.circuit_spec.specs.declared.hops.Hop.{Hop}
-use Rattle.domain_config.specs.Lines.{text_of}
-use Rattle.domain_config.specs.Rules.{Start, rule_lines}
-use Rattle.domain_config.proofs.Writes.{Told, IsUnderway, begun, same_left, one_more, made_cut, all_written}
-use Rattle.answer_text.specs.declared.answer.Answer.{Answer}
-use Rattle.answer_text.specs.declared.answer.PotLine.{PotLine}
-use Rattle.answer_text.specs.Spelling.{heading_lines, hop_lines, pot_line, lines_of, AreHops, IsWellFormed}
+use Rattle.line_text.specs.Lines.{text_of}
+use Rattle.device_rules.specs.Rules.{Start}
+use Rattle.domain_config.specs.Rules.{rule_lines}
+use Rattle.line_text.proofs.Writes.{Told, IsUnderway, begun, same_left, one_more, made_cut, all_written}
+use Rattle.answer_spec.specs.declared.answer.Answer.{Answer}
+use Rattle.answer_spec.specs.declared.answer.PotLine.{PotLine}
+use Rattle.answer_text.specs.Spelling.{heading_lines, hop_lines, pot_line, lines_of}
+use Rattle.answer_spec.specs.WellFormed.{AreHops, IsWellFormed}
 use Rattle.answer_text.proofs.Written.{whole_text, hops_fit, rules_fit}
 use Rattle.answer_text.proofs.writing.write.Goals as goal
 

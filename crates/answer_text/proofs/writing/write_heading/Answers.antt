@@ -1,9 +1,9 @@
 use Rattle.std.proofs.Common.{◌≡◌, refl, ℕ, List, [], ◌∷◌, ◌++◌}
 use Rattle.std.specs.Prelude.{codes}
 use Rattle.std.specs.Io.KnownBytes.{Appends}
-use Rattle.domain_config.specs.Lines.{text_of}
-use Rattle.domain_config.proofs.Writes.{Told, IsUnderway, begun, made_more, made_cut, all_written}
-use Rattle.answer_text.specs.declared.answer.Answer.{Answer}
+use Rattle.line_text.specs.Lines.{text_of}
+use Rattle.line_text.proofs.Writes.{Told, IsUnderway, begun, made_more, made_cut, all_written}
+use Rattle.answer_spec.specs.declared.answer.Answer.{Answer}
 use Rattle.answer_text.specs.Spelling.{heading_lines, request_line, outcome_line}
 use Rattle.answer_text.proofs.writing.write_heading.Goals as goal
 

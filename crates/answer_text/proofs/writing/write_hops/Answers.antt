@@ -1,5 +1,5 @@
 use Rattle.std.proofs.Common.{rules, refl, [], ◌∷◌, ◌++◌, ◌+◌}
-use Rattle.domain_config.proofs.Writes.{made_more, made_cut, same_left}
+use Rattle.line_text.proofs.Writes.{made_more, made_cut, same_left}
 use Rattle.answer_text.specs.Spelling.{hop_line}
 use Rattle.answer_text.proofs.Written.{has_flag, hop_left}
 use Rattle.answer_text.proofs.writing.write_hops.Goals as goal

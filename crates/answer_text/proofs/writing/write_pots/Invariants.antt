@@ -1,6 +1,6 @@
 use Rattle.std.proofs.Common.{◌≤◌, drop, map}
-use Rattle.domain_config.specs.Lines.{text_of}
-use Rattle.domain_config.proofs.Writes.{IsUnderway}
+use Rattle.line_text.specs.Lines.{text_of}
+use Rattle.line_text.proofs.Writes.{IsUnderway}
 use Rattle.answer_text.specs.Spelling.{pot_line}
 use Rattle.answer_text.proofs.writing.write_pots.Given as goal
 

@@ -1,8 +1,8 @@
 use Rattle.std.proofs.Common.{◌≡◌, ◌∙◌, ap, [], ◌∷◌, ◌++◌}
 use Rattle.std.specs.Prelude.{codes, decimal}
-use Rattle.domain_config.specs.Fields.{spaced, tag}
+use Rattle.line_text.specs.Fields.{spaced, tag}
 use Rattle.domain_config.specs.Rules.{verb, verb_of}
-use Rattle.domain_config.proofs.Writes.{then_word, then_words, then_end}
+use Rattle.line_text.proofs.Writes.{then_word, then_words, then_end}
 use Rattle.domain_config.proofs.making.make_rule_line.Goals as goal
 
 pub returns : goal.returns

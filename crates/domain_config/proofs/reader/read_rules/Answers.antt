@@ -1,13 +1,13 @@
 use Rattle.std.proofs.Common.{◌≡◌, ◌∙◌, sym, ap, subst, rules, arith, ℕ, ◌+◌, List, [], ◌∷◌, Result, Err, add-one}
 use Rattle.std.proofs.lemmas.Result.{err_from_is_err_and}
-use Rattle.domain_config.specs.declared.rules.Rule.{Rule}
-use Rattle.domain_config.specs.declared.rules.RuleFault.{RuleFault}
-use Rattle.domain_config.specs.declared.rules.RuleFault.TheVariants as fault
+use Rattle.device_rules.specs.declared.rules.Rule.{Rule}
+use Rattle.domain_config.specs.declared.fault.RuleFault.{RuleFault}
+use Rattle.domain_config.specs.declared.fault.RuleFault.TheVariants as fault
 use Rattle.domain_config.specs.declared.reader.RuleReader.{RuleReader}
-use Rattle.domain_config.specs.Lines.{pieces, read_from, adding, closing}
+use Rattle.line_text.specs.Lines.{pieces, read_from, adding, closing}
 use Rattle.domain_config.specs.Rules.{rule_step, rules_end}
 use Rattle.domain_config.specs.Saying.{at_of, behind_rules, Takes, TakesAt, AnswersAs}
-use Rattle.domain_config.proofs.Onward.{taken_on, misfit_on, closed_on}
+use Rattle.line_text.proofs.Onward.{taken_on, misfit_on, closed_on}
 use Rattle.domain_config.proofs.RuleTexts.{answered_laid_out, answered_first}
 use Rattle.domain_config.proofs.reader.read_rules.Goals as goal
 

@@ -1,5 +1,5 @@
 use Rattle.std.proofs.Common.{◌≡◌, ◌+◌, ◌≤◌, length}
-use Rattle.domain_config.specs.Lines.{pieces, read_from, adding}
+use Rattle.line_text.specs.Lines.{pieces, read_from, adding}
 use Rattle.domain_config.specs.Rules.{rule_step, rules_end}
 use Rattle.domain_config.specs.Layout.{rules_in}
 use Rattle.domain_config.specs.Saying.{at_of, behind_rules}

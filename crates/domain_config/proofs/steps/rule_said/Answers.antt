@@ -1,12 +1,13 @@
 use Rattle.std.proofs.Common.{◌≡◌, ◌∙◌, ap, sym, ℕ, ◌<◌, Option, Some, true, Bool, arith, rules, ◌∷◌}
 use Rattle.std.specs.Prelude.{nat_lt}
 use Rattle.std.proofs.lemmas.Bool.{and_from}
-use Rattle.domain_config.specs.declared.rules.Rule.{Rule}
-use Rattle.domain_config.specs.Fields.{Word, kept_if}
-use Rattle.domain_config.specs.Rules.{At, In, RuleWords, tags_agree, rule_of, to_rule}
+use Rattle.device_rules.specs.declared.rules.Rule.{Rule}
+use Rattle.line_text.specs.Fields.{Word, kept_if}
+use Rattle.device_rules.specs.Rules.{At, In}
+use Rattle.domain_config.specs.Rules.{RuleWords, tags_agree, rule_of, to_rule}
 use Rattle.domain_config.specs.Saying.{at_by, rule_added}
-use Rattle.domain_config.specs.Taking.{words_view}
-use Rattle.domain_config.proofs.Words.{is_above}
+use Rattle.domain_config.specs.Views.{words_view}
+use Rattle.place_names.proofs.Ids.{is_above}
 use Rattle.domain_config.proofs.steps.rule_said.Goals as goal
 
 said_by : (domain : Word) (last : ℕ) (t : RuleWords) (r : Rule) → tags_agree t ≡ true → last < t.head → rule_of domain t ≡ r → to_rule (In domain last) (Some t) ≡ Some (rule_added (In domain last) r)

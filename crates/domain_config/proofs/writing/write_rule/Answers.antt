@@ -3,10 +3,11 @@ use Rattle.std.specs.Prelude.{option_copied}
 use Rattle.std.specs.Io.KnownBytes.{Appends}
 use Rattle.io_edges.specs.Stores.{AppendsFront}
 use Rattle.io_edges.proofs.Written.{Appends-join}
-use Rattle.domain_config.specs.Lines.{text_of}
+use Rattle.line_text.specs.Lines.{text_of}
 use Rattle.domain_config.specs.Rules.{domain_lines}
-use Rattle.domain_config.specs.Writing.{after}
-use Rattle.domain_config.proofs.Writes.{on_err, front_behind, lines_at_text}
+use Rattle.device_rules.specs.Rules.{after}
+use Rattle.line_text.proofs.Writes.{on_err, front_behind}
+use Rattle.domain_config.proofs.RuleWrites.{lines_at_text}
 use Rattle.domain_config.proofs.writing.write_rule.Goals as goal
 
 pub returns-clause-ok : goal.returns-clause-ok

@@ -1,8 +1,10 @@
 use Rattle.std.proofs.Common.{rules}
 use Rattle.std.specs.Prelude.{option_copied}
-use Rattle.domain_config.specs.Lines.{text_of}
-use Rattle.domain_config.specs.Writing.{after, lines_at}
-use Rattle.domain_config.proofs.Writes.{on_err, one_more, cut_short, same_left, rule_left}
+use Rattle.line_text.specs.Lines.{text_of}
+use Rattle.device_rules.specs.Rules.{after}
+use Rattle.domain_config.specs.Writing.{lines_at}
+use Rattle.line_text.proofs.Writes.{on_err, one_more, cut_short, same_left}
+use Rattle.domain_config.proofs.RuleWrites.{rule_left}
 use Rattle.domain_config.proofs.writing.write_rules.Goals as goal
 
 pub loop-rule-preserved : goal.loop-rule-preserved

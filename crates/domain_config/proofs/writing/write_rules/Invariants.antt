@@ -1,9 +1,9 @@
 use Rattle.std.proofs.Common.{◌≤◌, drop}
 use Rattle.std.specs.Prelude.{option_copied}
-use Rattle.domain_config.specs.Lines.{text_of}
-use Rattle.domain_config.specs.Rules.{Start, rule_lines}
-use Rattle.domain_config.specs.Writing.{after}
-use Rattle.domain_config.proofs.Writes.{IsUnderway}
+use Rattle.line_text.specs.Lines.{text_of}
+use Rattle.device_rules.specs.Rules.{Start, after}
+use Rattle.domain_config.specs.Rules.{rule_lines}
+use Rattle.line_text.proofs.Writes.{IsUnderway}
 use Rattle.domain_config.proofs.writing.write_rules.Given as goal
 
 abbrev pub invariant-loop-rule : goal.invariant-loop-rule

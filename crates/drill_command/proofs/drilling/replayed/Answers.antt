@@ -1,6 +1,6 @@
 use Rattle.std.proofs.Common.{◌≡◌, refl}
 use Rattle.std.proofs.lemmas.Result.{IfOk-weaker}
-use Rattle.domain_config.specs.Lines.{text_of}
+use Rattle.line_text.specs.Lines.{text_of}
 use Rattle.answer_text.specs.Spelling.{lines_of}
 use Rattle.rule_replay.specs.declared.replayed.Replayed.{Replayed as WhatIsTold}
 use Rattle.rule_replay.specs.Replaying.{IsReplayed}

@@ -2,7 +2,7 @@ use Rattle.std.proofs.Common.{◌≡◌, ◌∷◌, [], List, take}
 use Rattle.circuit_spec.specs.declared.hops.PlaceName.{PlaceName}
 use Rattle.circuit_spec.specs.Flags.{Enters, flags_after}
 use Rattle.circuit_spec.specs.Network.{IsClass, Port}
-use Rattle.answer_text.specs.Certificate.{first_place}
+use Rattle.answer_spec.specs.Certificate.{first_place}
 use Rattle.hop_check.specs.Visits.{AreVisits}
 use Rattle.hop_check.proofs.flagging.check_flags.Given as goal
 

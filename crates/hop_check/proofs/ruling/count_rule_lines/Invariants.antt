@@ -1,7 +1,7 @@
 use Rattle.std.proofs.Common.{◌≡◌, ◌≤◌, ◌+◌, ◌*◌, drop, length}
 use Rattle.std.specs.Prelude.{option_copied}
-use Rattle.domain_config.specs.Rules.{Start, rule_lines}
-use Rattle.domain_config.specs.Writing.{after}
+use Rattle.device_rules.specs.Rules.{Start, after}
+use Rattle.domain_config.specs.Rules.{rule_lines}
 use Rattle.hop_check.proofs.ruling.count_rule_lines.Given as goal
 
 abbrev pub invariant-loop-rule : goal.invariant-loop-rule

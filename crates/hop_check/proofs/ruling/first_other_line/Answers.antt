@@ -2,8 +2,8 @@ use Rattle.std.proofs.Common.{◌≡◌, ◌≤◌, ◌+◌, length, drop, refl,
 use Rattle.std.specs.Prelude.{option_copied, slice_get}
 use Rattle.std.proofs.lemmas.Bool.{both_ways}
 use Rattle.std.proofs.lemmas.Option.{slice_get_read}
-use Rattle.domain_config.specs.Rules.{AreLaidOut, rule_lines}
-use Rattle.domain_config.specs.Writing.{after}
+use Rattle.device_rules.specs.Rules.{AreLaidOut, after}
+use Rattle.domain_config.specs.Rules.{rule_lines}
 use Rattle.verdict.specs.First.{IsFirstDifference}
 use Rattle.hop_check.proofs.OtherLine.{agree_more, begins_rest, differ_on, missing, more_of, rule_next}
 use Rattle.hop_check.proofs.ruling.first_other_line.Goals as goal

@@ -1,5 +1,5 @@
 use Rattle.std.specs.Prelude.{option_copied}
-use Rattle.domain_config.specs.Writing.{after}
+use Rattle.device_rules.specs.Rules.{after}
 use Rattle.hop_check.proofs.OtherLine.{AgreeTo}
 use Rattle.hop_check.proofs.ruling.first_other_line.Given as goal
 

@@ -3,7 +3,7 @@ use Rattle.std.specs.Prelude.{option_copied}
 use Rattle.std.proofs.lemmas.Bool.{both_ways}
 use Rattle.std.specs.Str.{bytes_eq}
 use Rattle.std.proofs.lemmas.Slice.Eq.{bytes_eq-Decides}
-use Rattle.domain_config.specs.Writing.{after}
+use Rattle.device_rules.specs.Rules.{after}
 use Rattle.hop_check.proofs.OtherLine.{alike_in_domain, alike_in_none, alike_at_end}
 use Rattle.hop_check.proofs.ruling.lines_alike.Goals as goal
 

@@ -1,6 +1,6 @@
 use Rattle.std.proofs.Common.{◌+◌, None, arith, refl, subst, sym, take}
 use Rattle.std.proofs.lemmas.Result.{err_from_is_err_and}
-use Rattle.answer_text.specs.Spelling.{ArePots}
+use Rattle.answer_spec.specs.WellFormed.{ArePots}
 use Rattle.potential_check.specs.Pairs.{ArePairsOf, IsPairOf}
 use Rattle.potential_check.proofs.Ordering.{above_last}
 use Rattle.potential_check.proofs.Placing.{first_unplaced}

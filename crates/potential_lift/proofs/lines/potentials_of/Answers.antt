@@ -1,7 +1,7 @@
 use Rattle.std.proofs.Common.{subst}
 use Rattle.std.proofs.lemmas.Result.{IfOk-weaker}
 use Rattle.segment_grammar.specs.Pots.{IsRising}
-use Rattle.answer_text.specs.Potentials.{ArePotentials}
+use Rattle.answer_spec.specs.Potentials.{ArePotentials}
 use Rattle.potential_lift.specs.Lines.{AreLinesOf}
 use Rattle.potential_lift.proofs.Listed.{listed}
 use Rattle.potential_lift.proofs.lines.potentials_of.Goals as goal

@@ -1,5 +1,5 @@
 use Rattle.std.proofs.Common.{◌∙◌, ap}
-use Rattle.domain_config.specs.Rules.{Start}
+use Rattle.device_rules.specs.Rules.{Start}
 use Rattle.answer_text.specs.Taking.{last_of}
 use Rattle.answer_text.proofs.Grown.{pots_at}
 use Rattle.answer_text.proofs.reader.BodyReader.said.Goals as goal

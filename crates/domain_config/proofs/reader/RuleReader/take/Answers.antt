@@ -1,8 +1,8 @@
 use Rattle.std.proofs.Common.{◌≡◌, ◌∙◌, sym, ap, ℕ, List, [], ◌∷◌, ◌++◌, append_assoc, Option, Some, None}
-use Rattle.domain_config.specs.declared.rules.Rule.{Rule}
+use Rattle.device_rules.specs.declared.rules.Rule.{Rule}
 use Rattle.domain_config.specs.declared.steps.Said.{Said}
-use Rattle.domain_config.specs.Fields.{Word}
-use Rattle.domain_config.specs.Rules.{At}
+use Rattle.line_text.specs.Fields.{Word}
+use Rattle.device_rules.specs.Rules.{At}
 use Rattle.domain_config.specs.Saying.{at_by, rule_added, step_of, Takes}
 use Rattle.domain_config.proofs.reader.RuleReader.take.Goals as goal
 

@@ -1,5 +1,5 @@
 use Rattle.std.proofs.Common.{◌∙◌, ap, subst, List, get_or}
-use Rattle.domain_config.specs.declared.rules.Rule.{Rule}
+use Rattle.device_rules.specs.declared.rules.Rule.{Rule}
 use Rattle.table_replay.specs.Tabled.{Moves}
 use Rattle.table_replay.specs.Forwarding.{place_of}
 use Rattle.table_replay.proofs.Turning.{is_taken, not_taken, still_ready}

@@ -1,0 +1,5 @@
+pub mod Lengths
+pub mod Carried
+pub mod Certified
+pub mod Bounded
+pub mod Unique

@@ -1,5 +1,0 @@
-use Rattle.answer_text.proofs.Certified.{certified}
-use Rattle.answer_text.proofs.certificate.exact_answers_are_certified.Goals as goal
-
-pub returns : goal.returns
-returns c = certified

@@ -1,5 +1,0 @@
-use Rattle.answer_text.proofs.Unique.{one_list}
-use Rattle.answer_text.proofs.certificate.potentials_are_one.Goals as goal
-
-pub returns : goal.returns
-returns c = one_list

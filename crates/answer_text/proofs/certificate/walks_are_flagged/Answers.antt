@@ -1,5 +1,0 @@
-use Rattle.answer_text.proofs.Carried.{walk_flagged}
-use Rattle.answer_text.proofs.certificate.walks_are_flagged.Goals as goal
-
-pub returns : goal.returns
-returns c = walk_flagged
