@@ -1,12 +1,14 @@
 use keyed_hash::{Keyed, ReadDigest};
 use label_sets::LabelSet;
 use ml_base::Id;
-use nml_elements::{AdaptE, ConvE, Domain, Element, IdList, Labels, LinkE, NodeE, PortE, SwitchE};
+use nml_elements::{
+    AdaptE, ConvE, Domain, DomainList, Element, IdList, Labels, LinkE, NodeE, PortE, SwitchE,
+};
 
 /// The key of all that is read of the files: who writes any of it otherwise has another one.
-pub fn key_of(domains: &[Domain]) -> Keyed {
+pub fn key_of(domains: &DomainList) -> Keyed {
     let mut digest = ReadDigest::new();
-    for domain in domains {
+    for domain in domains.as_slice() {
         add_domain(&mut digest, domain);
     }
     digest.key()
