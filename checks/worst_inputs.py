@@ -142,7 +142,7 @@ def front_of_equal_hashes(length):
 
 
 def equal_hashes(count):
-    """Ids whose default hash is the same."""
+    """Ids whose hash is the same under the default hasher of the kit, which has a fixed seed."""
     return [f"{front_of_equal_hashes(48)}{number:08}{'t' * 16}" for number in range(count)]
 
 

@@ -4,6 +4,7 @@ ghost use Rattle.label_sets.specs.Ranges.{has};
 ghost use Rattle.kept_table.specs.Gathering.{AddsLabels, AddsSet, AddsSingle, AreByType, HasPlace, types_of};
 
 use indexmap::IndexSet;
+use keyed_hash::Keyed;
 use label_sets::LabelSet;
 use ml_base::{Id, Items, NoMemory};
 use nml_elements::Labels;
@@ -22,7 +23,7 @@ pub struct TypeTests {
 /// The sets and the stated labels by label type, each type once.
 #[derive(Drop)]
 pub struct Gathered {
-    types: IndexSet<RcStr<Global>>,
+    types: IndexSet<RcStr<Global>, Keyed>,
     tests: Vec<TypeTests>,
 }
 
@@ -40,11 +41,12 @@ impl Model for Gathered {
 }
 
 impl Gathered {
-    pub fn new(alloc: Global) -> Gathered
+    /// Nothing yet, by label types that hash by the key.
+    pub fn new(alloc: Global, key: Keyed) -> Gathered
         ensures { result ≡ [] }
     {
         Gathered {
-            types: IndexSet::new(alloc),
+            types: IndexSet::with_hasher(alloc, key),
             tests: Vec::new(alloc),
         }
     }
@@ -101,7 +103,7 @@ impl Gathered {
     }
 
     /// The label types, in the order of what is gathered.
-    pub fn into_types(self) -> IndexSet<RcStr<Global>>
+    pub fn into_types(self) -> IndexSet<RcStr<Global>, Keyed>
         ensures { map rc_str_bytes result.keys ≡ types_of self }
     {
         self.types
@@ -111,7 +113,7 @@ impl Gathered {
 /// The place of a label type, behind the others if it is a new one.
 fn place_of(
     alloc: Global,
-    types: &mut IndexSet<RcStr<Global>>,
+    types: &mut IndexSet<RcStr<Global>, Keyed>,
     tests: &mut Vec<TypeTests>,
     labeltype: &Id,
 ) -> Result<usize, NoMemory>

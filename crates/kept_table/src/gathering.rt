@@ -34,7 +34,7 @@ fn class_sets(alloc: Global, inventory: &Inventory) -> Result<Gathered, NoMemory
     requires { ClassesFit inventory.now }
     ensures { IfOk result (λ all. (r : RequestValue) → IsGathered inventory.now r (length (ports inventory.now)) 0 0 all) }
 {
-    let mut gathered = Gathered::new(alloc);
+    let mut gathered = Gathered::new(alloc, inventory.hashing());
     for port in 0..inventory.ports() {
         gathered = with_class(alloc, inventory, gathered, PortNo(port))?;
     }

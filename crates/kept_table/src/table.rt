@@ -5,6 +5,7 @@ ghost use Rattle.kept_table.specs.Rows.{AreRows, row_of};
 ghost use Rattle.kept_table.specs.Table.{labels_in};
 
 use indexmap::IndexSet;
+use keyed_hash::Keyed;
 use label_atoms::Kept;
 use ml_base::Id;
 use std::alloc::Global;
@@ -21,7 +22,7 @@ pub struct KeptRow {
 /// The kept labels of a network, by label type.
 #[derive(Drop)]
 pub struct KeptTable {
-    types: IndexSet<RcStr<Global>>,
+    types: IndexSet<RcStr<Global>, Keyed>,
     rows: Vec<KeptRow>,
 }
 
@@ -40,7 +41,7 @@ impl Model for KeptTable {
 
 impl KeptTable {
     /// The table of these rows, whose label types are these.
-    pub(crate) fn new(types: IndexSet<RcStr<Global>>, rows: Vec<KeptRow>) -> KeptTable
+    pub(crate) fn new(types: IndexSet<RcStr<Global>, Keyed>, rows: Vec<KeptRow>) -> KeptTable
         requires { AreRows (map rc_str_bytes types.keys) rows.items }
         ensures { result ≡ map row_of rows.items }
     {

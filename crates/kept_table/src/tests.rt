@@ -1,5 +1,6 @@
 use crate::building::table_of;
 use crate::gathered::Gathered;
+use keyed_hash::ReadDigest;
 use label_sets::{LabelFault, LabelSet};
 use ml_base::Id;
 use nml_elements::Labels;
@@ -20,7 +21,7 @@ fn stated_labels_are_kept_apart(rt: HostRuntime) -> Result<(), Fail> {
     let vlan = Id::new(alloc, "vlan")?;
     let lambda = Id::new(alloc, "lambda")?;
     let all = labels(alloc, &vlan, "2-4094")?;
-    let gathered = Gathered::new(alloc)
+    let gathered = Gathered::new(alloc, ReadDigest::new().key())
         .with_labels(alloc, &all)?
         .with_labels(alloc, &Labels::Unlabelled)?
         .with_labels(alloc, &labels(alloc, &lambda, "7,9")?)?
@@ -37,7 +38,10 @@ fn stated_labels_are_kept_apart(rt: HostRuntime) -> Result<(), Fail> {
 #[test]
 fn without_labels_there_is_no_type(rt: HostRuntime) -> Result<(), Fail> {
     let alloc = rt.alloc();
-    let gathered = Gathered::new(alloc).with_labels(alloc, &Labels::Unlabelled)?;
+    let gathered = Gathered::new(alloc, ReadDigest::new().key()).with_labels(
+        alloc,
+        &Labels::Unlabelled,
+    )?;
     let table = table_of(alloc, gathered)?;
     assert_eq!(rt; table.types(), 0);
     assert_eq!(rt; table.labels(&Id::new(alloc, "vlan")?), [].as_slice());

@@ -11,6 +11,7 @@ use crate::sides::{changes, far_ports, fitting, near_ports, takes};
 use crate::ways::{Crossing, End, Move};
 use circuit_spec::Frame;
 use indexmap::IndexSet;
+use keyed_hash::Keyed;
 use ml_base::{NoMemory, PortNo, StateNo};
 use nml_inventory::Inventory;
 use open_places::Places;
@@ -76,7 +77,7 @@ fn add_far_side(
 fn add_near_end(
     inventory: &Inventory,
     places: &Places,
-    frames: &mut IndexSet<Frame>,
+    frames: &mut IndexSet<Frame, Keyed>,
     moves: &mut Moves,
     number: u64,
     near: End,
@@ -110,7 +111,7 @@ fn add_near_end(
 fn add_near_port(
     inventory: &Inventory,
     places: &Places,
-    frames: &mut IndexSet<Frame>,
+    frames: &mut IndexSet<Frame, Keyed>,
     moves: &mut Moves,
     number: u64,
     port: PortNo,
@@ -136,7 +137,7 @@ fn add_near_port(
 fn add_element(
     inventory: &Inventory,
     places: &Places,
-    frames: &mut IndexSet<Frame>,
+    frames: &mut IndexSet<Frame, Keyed>,
     moves: &mut Moves,
     number: u64,
 ) -> Result<(), NoMemory>
@@ -159,7 +160,7 @@ pub fn moves_of(
     alloc: Global,
     inventory: &Inventory,
     places: &Places,
-    frames: &mut IndexSet<Frame>,
+    frames: &mut IndexSet<Frame, Keyed>,
 ) -> Result<Moves, NoMemory>
     requires fit { ClassesFit inventory.now }
     requires places { HaveSpans inventory.now places.now }

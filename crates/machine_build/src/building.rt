@@ -28,7 +28,7 @@ pub fn build(
 {
     inventory.is_merged();
     let places = open_places(alloc, inventory, kept)?;
-    let mut frames = IndexSet::new(alloc);
+    let mut frames = IndexSet::with_hasher(alloc, inventory.hashing());
     let moves = moves_of(alloc, inventory, &places, &mut frames)?;
     let (steps, sites) = moves.into_parts();
     let machine = Machine::of_steps(places.len(), count_frames(&frames), steps);

@@ -8,12 +8,13 @@ use crate::ways::Effect;
 use adapt_machine::MachineKind;
 use circuit_spec::Frame;
 use indexmap::IndexSet;
+use keyed_hash::Keyed;
 use ml_base::{FrameNo, Id, NoMemory, PortNo, Tag};
 use nml_elements::{Element, Labels};
 use nml_inventory::Inventory;
 
 /// The number of a frame: that of an equal one, or the next.
-fn number_frame(frames: &mut IndexSet<Frame>, frame: Frame) -> Result<FrameNo, NoMemory>
+fn number_frame(frames: &mut IndexSet<Frame, Keyed>, frame: Frame) -> Result<FrameNo, NoMemory>
     ensures { IfOk result (λ no. HasNumbered frames.old.keys frames.new.keys frame no.0) }
 {
     let Ok(put) = frames.insert_full(frame) else {
@@ -23,7 +24,7 @@ fn number_frame(frames: &mut IndexSet<Frame>, frame: Frame) -> Result<FrameNo, N
 }
 
 /// How many frames there are. No two are equal.
-pub fn count_frames(frames: &IndexSet<Frame>) -> u64
+pub fn count_frames(frames: &IndexSet<Frame, Keyed>) -> u64
     ensures counted { result ≡ length frames.now.keys }
     ensures apart { AreApart frames.now.keys }
 {
@@ -75,7 +76,7 @@ fn cost_of(element: &Element) -> u64
 /// The frame's number, for a service with this function and a client port.
 fn frame_number(
     inventory: &Inventory,
-    frames: &mut IndexSet<Frame>,
+    frames: &mut IndexSet<Frame, Keyed>,
     function: &Id,
     port: PortNo,
     label: Tag,
@@ -92,7 +93,7 @@ fn frame_number(
 /// What the steps of an element do and cost whose near end is at this label of the port's class.
 pub fn effect_of(
     inventory: &Inventory,
-    frames: &mut IndexSet<Frame>,
+    frames: &mut IndexSet<Frame, Keyed>,
     element: &Element,
     near: PortNo,
     label: Tag,

@@ -7,6 +7,7 @@ use crate::kinds::ids_of;
 use crate::numbered::Numbered;
 use crate::port_ids::add_pairs;
 use indexmap::IndexSet;
+use keyed_hash::Keyed;
 use ml_base::{Id, NoMemory, PortNo};
 use nml_elements::{Element, PortE};
 use std::alloc::Global;
@@ -130,7 +131,7 @@ pub fn element_arcs(
     alloc: Global,
     numbered: &Numbered,
     listing: Listing,
-    ids: &IndexSet<RcStr<Global>>,
+    ids: &IndexSet<RcStr<Global>, Keyed>,
 ) -> Result<Vec<(u32, u32)>, NoMemory>
     requires { length ids.now.keys < 2 ^ 32 }
     ensures { IfOk result (λ arcs. arcs.items ≡ pairs_named (map rc_str_bytes ids.now.keys) (λ (e : Placed). in_element listing e.element) (elements_of numbered.now)) }

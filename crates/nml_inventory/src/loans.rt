@@ -10,6 +10,7 @@ ghost use Rattle.nml_inventory.specs.Tables.{lending_nodes};
 use crate::numbered::Numbered;
 use alias_merge::Groups;
 use indexmap::IndexSet;
+use keyed_hash::Keyed;
 use ml_base::{Id, NoMemory};
 use nml_elements::{Element, SwitchE};
 use std::alloc::Global;
@@ -81,7 +82,7 @@ pub struct Loan {
 /// The loans of all elements, each kept once.
 #[derive(Drop)]
 pub struct Loans {
-    pub kinds: IndexSet<Loan>,
+    pub kinds: IndexSet<Loan, Keyed>,
     /// For each element the place of its loan.
     pub rows: Vec<usize>,
 }
@@ -91,7 +92,7 @@ pub fn loans_of(alloc: Global, numbered: &Numbered, nodes: &Groups) -> Result<Lo
     requires { nodes.now ≡ lending_nodes numbered.now }
     ensures { IfOk result (λ loans. AreLoans numbered.now loans.kinds.keys loans.rows.items) }
 {
-    let mut kinds = IndexSet::new(alloc);
+    let mut kinds = IndexSet::with_hasher(alloc, numbered.hashing());
     let mut rows = Vec::new(alloc);
     for number in 0..numbered.elements() {
         let loan = loan_of(alloc, nodes, number, numbered.at(u64::from(number)))?;
@@ -101,7 +102,11 @@ pub fn loans_of(alloc: Global, numbered: &Numbered, nodes: &Groups) -> Result<Lo
 }
 
 /// Adds the loan of one more element. An equal one is kept once.
-fn add_loan(kinds: &mut IndexSet<Loan>, rows: &mut Vec<usize>, loan: Loan) -> Result<(), NoMemory>
+fn add_loan(
+    kinds: &mut IndexSet<Loan, Keyed>,
+    rows: &mut Vec<usize>,
+    loan: Loan,
+) -> Result<(), NoMemory>
     ensures { OnOk result (HasLoaned kinds.old.keys kinds.new.keys rows.old.items rows.new.items loan) }
 {
     let Ok(put) = kinds.insert_full(loan) else {

@@ -9,6 +9,7 @@ use crate::named::Named;
 use crate::port_ids::{class_numbers, number_ports, place_ports, port_of};
 use circuit_spec::Spot;
 use indexmap::IndexSet;
+use keyed_hash::Keyed;
 use ml_base::{Id, NoMemory, PortNo};
 use nml_elements::{Element, PortE};
 use std::alloc::Global;
@@ -19,7 +20,7 @@ use std::rc::RcStr;
 #[derive(Drop)]
 pub struct Numbered {
     named: Named,
-    port_ids: IndexSet<RcStr<Global>>,
+    port_ids: IndexSet<RcStr<Global>, Keyed>,
     port_places: Vec<u64>,
     class_of: Vec<u32>,
     none: Id,
@@ -91,7 +92,7 @@ impl Numbered {
     }
 
     /// The ids of the ports by their numbers.
-    pub fn port_ids(&self) -> &IndexSet<RcStr<Global>>
+    pub fn port_ids(&self) -> &IndexSet<RcStr<Global>, Keyed>
         ensures ids { map rc_str_bytes result.now.keys ≡ map (λ (p : Port). p.id) (ports self.now) }
         ensures few { length result.now.keys < 2 ^ 32 }
     {
@@ -99,12 +100,17 @@ impl Numbered {
     }
 
     /// The ids of the elements by their numbers.
-    pub fn element_ids(&self) -> &IndexSet<RcStr<Global>>
+    pub fn element_ids(&self) -> &IndexSet<RcStr<Global>, Keyed>
         ensures ids { map rc_str_bytes result.now.keys ≡ map (λ (e : Placed). id_of e.element) (elements_of self.now) }
         ensures few { length result.now.keys < 2 ^ 32 }
     {
         let _ = &self.port_ids;
         self.named.ids()
+    }
+
+    /// What maps over the files hash by.
+    pub fn hashing(&self) -> Keyed {
+        self.named.hashing()
     }
 
     /// The encoding of a port: its own, or its file's, or none.

@@ -6,6 +6,7 @@ ghost use Rattle.nml_inventory.specs.Relations.{open_at, open_in, open_names, op
 use crate::kinds::relation_at;
 use crate::numbered::Numbered;
 use indexmap::IndexSet;
+use keyed_hash::Keyed;
 use ml_base::{Id, NoMemory};
 use nml_elements::Element;
 use std::alloc::Global;
@@ -58,10 +59,10 @@ fn open_names(
     alloc: Global,
     numbered: &Numbered,
     targets: &[Id],
-) -> Result<IndexSet<RcStr<Global>>, NoMemory>
+) -> Result<IndexSet<RcStr<Global>, Keyed>, NoMemory>
     ensures { IfOk result (λ ids. map rc_str_bytes ids.keys ≡ open_names numbered.now targets.now) }
 {
-    let mut ids = IndexSet::new(alloc);
+    let mut ids = IndexSet::with_hasher(alloc, numbered.hashing());
     for target in targets {
         if is_open(numbered, target) {
             add_once(&mut ids, target)?;
@@ -81,7 +82,7 @@ fn is_open(numbered: &Numbered, id: &Id) -> bool
 }
 
 /// Puts the id behind the others, where it is not among them.
-fn add_once(ids: &mut IndexSet<RcStr<Global>>, id: &Id) -> Result<(), NoMemory>
+fn add_once(ids: &mut IndexSet<RcStr<Global>, Keyed>, id: &Id) -> Result<(), NoMemory>
     ensures { OnOk result (map rc_str_bytes ids.new.keys ≡ with_name (map rc_str_bytes ids.old.keys) id.now) }
 {
     let key = id.key()?;

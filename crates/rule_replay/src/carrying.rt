@@ -8,11 +8,12 @@ ghost use Rattle.rule_replay.specs.Carrying.{IsCarry, Passes, StepsOver};
 use crate::replayed::ReplayCause;
 use circuit_spec::{Hop, HopList, PlaceName};
 use indexmap::IndexSet;
+use keyed_hash::{Keyed, ReadDigest};
 use ml_base::{Items, NoMemory};
 use nml_inventory::Inventory;
 use packet_replay::{Replay, StepFault};
 use std::alloc::Global;
-use table_replay::{meet, place_of, unit_at};
+use table_replay::{add_place, meet, place_of, unit_at};
 
 /// A unit on its way, and the places where it was, one after another.
 #[derive(Drop)]
@@ -105,11 +106,20 @@ pub fn carry_unit(
     Ok(Carry::Through(passed))
 }
 
+/// The key of these places.
+fn key_of(places: &[PlaceName]) -> Keyed {
+    let mut digest = ReadDigest::new();
+    for place in places {
+        add_place(&mut digest, &place.class, place.label);
+    }
+    digest.key()
+}
+
 /// Whether no two of the places are the same.
 pub fn are_apart(alloc: Global, places: &[PlaceName]) -> Result<bool, NoMemory>
     ensures { IfOk result (λ apart. IsTrue apart ↔ AreUnset (flags_after [] places.now)) }
 {
-    let mut met = IndexSet::new(alloc);
+    let mut met = IndexSet::with_hasher(alloc, key_of(places));
     for place in places {
         if !meet(&mut met, place)? {
             return Ok(false);

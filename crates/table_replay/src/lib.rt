@@ -15,6 +15,7 @@
 
 mod fault;
 mod forwarding;
+mod key;
 mod laws;
 mod table;
 #[cfg(test)]
@@ -23,5 +24,6 @@ mod way;
 
 pub use fault::ForwardFault;
 pub use forwarding::forward;
+pub use key::add_place;
 pub use laws::{forwarding_is_one, plain_walks_are_forwarded};
 pub use way::{meet, place_of, unit_at};

@@ -3,8 +3,10 @@ ghost use Rattle.std.specs.Option.{option_copied};
 ghost use Rattle.circuit_spec.specs.declared.hops.PlaceName.{PlaceName as Place};
 ghost use Rattle.table_replay.specs.Tabled.{AddsRule, AreSlots, IsLeavingPlace, slot_at, slot_with};
 
+use crate::key::key_of;
 use circuit_spec::{Hop, PlaceName};
 use device_rules::Rule;
+use keyed_hash::Keyed;
 use ml_base::NoMemory;
 use nml_inventory::Inventory;
 use std::alloc::Global;
@@ -22,7 +24,7 @@ pub enum Slot {
 /// The rules of a list by the places that they leave from. Contracts see the places with their slots.
 #[derive(Drop)]
 pub struct Table {
-    slots: HashMap<PlaceName, Slot>,
+    slots: HashMap<PlaceName, Slot, Keyed>,
 }
 
 impl Model for Table {
@@ -71,6 +73,11 @@ impl Table {
         Ok(())
     }
 
+    /// What maps of the places that rules leave from hash by.
+    pub fn hashing(&self) -> Keyed {
+        *self.slots.hasher()
+    }
+
     /// Takes the slot of a place out.
     pub fn take(&mut self, place: &PlaceName) -> Option<Slot>
         ensures slot { result ≡ slot_at self.old place.now }
@@ -105,7 +112,7 @@ pub fn table_of(alloc: Global, inventory: &Inventory, rules: &[Rule]) -> Result<
     ensures count { IfOk result (λ table. length table ≤ length rules.now) }
 {
     let mut table = Table {
-        slots: HashMap::new(alloc),
+        slots: HashMap::with_hasher(alloc, key_of(inventory, rules)),
     };
     for number in 0..rules.len() {
         add_rule(&mut table, inventory, rules, number)?;

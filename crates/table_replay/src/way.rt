@@ -9,6 +9,7 @@ use crate::table::{Slot, Table, table_of};
 use circuit_spec::{FrameList, Hop, HopList, PlaceName, Unit};
 use device_rules::RuleList;
 use indexmap::IndexSet;
+use keyed_hash::Keyed;
 use ml_base::NoMemory;
 use nml_inventory::Inventory;
 use packet_replay::{Replay, StepFault};
@@ -19,7 +20,7 @@ use std::alloc::Global;
 pub struct Way {
     pub replay: Replay,
     pub table: Table,
-    pub met: IndexSet<PlaceName>,
+    pub met: IndexSet<PlaceName, Keyed>,
     pub hops: HopList,
 }
 
@@ -45,7 +46,7 @@ pub fn place_of(unit: &Unit) -> Result<PlaceName, NoMemory>
 }
 
 /// Puts the place behind those that were met. The answer is whether it was not among them.
-pub fn meet(met: &mut IndexSet<PlaceName>, place: &PlaceName) -> Result<bool, NoMemory>
+pub fn meet(met: &mut IndexSet<PlaceName, Keyed>, place: &PlaceName) -> Result<bool, NoMemory>
     ensures { IfOk result (Meets met.old.keys met.new.keys place.now) }
 {
     let Ok(put) = met.insert_full(place.share()?) else {
@@ -86,10 +87,11 @@ impl Way {
         let table = table_of(alloc, inventory, rules.as_slice())?;
         let unit = unit_at(alloc, start)?;
         let replay = Replay::new(alloc, unit, rules.len())?;
+        let met = IndexSet::with_hasher(alloc, table.hashing());
         Ok(Way {
             replay,
             table,
-            met: IndexSet::new(alloc),
+            met,
             hops: HopList::new(alloc),
         })
     }
