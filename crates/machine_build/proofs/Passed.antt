@@ -192,6 +192,13 @@ module _ (T : Topology) (places : List PlaceName) (number : ℕ) where
         (λ w r. (r.3.0, r.3.1))
         (λ m r s. s)
 
+-- an element without far ports has no ways
+pub no_far : (T : Topology) (places : List PlaceName) (number : ℕ) (found : List PortNo) → AreNumbersOf T (is_far T) number (map (λ (p : PortNo). p.0) found) → length found ≡ 0 → (frames : List Frame) (old : List Move)
+    → Adds (λ w. IsWay T places w × (w.element ≡ number)) (IsDone T places frames) old old
+no_far T places number found listed none frames old = adds_none (λ w. IsWay T places w × (w.element ≡ number)) (IsDone T places frames) old
+    (λ w r. let j = at_listed T (is_far T) number found listed w.far.port r.0.placed r.0.to (subst (λ k. slice_get (elements_of T) k ≡ Some r.0.placed) r.1 r.0.element_at) r.0.far.port_at r.0.to_far in
+    let l = slice_get_within found j.0 w.far.port j.1 in omega (arith, l, none))
+
 -- The loop over the elements
 
 module _ (T : Topology) (places : List PlaceName) where

@@ -133,7 +133,7 @@ fn add_near_port(
     Ok(())
 }
 
-/// Adds the moves through an element.
+/// Adds the moves through an element. One without far ports has none.
 fn add_element(
     inventory: &Inventory,
     places: &Places,
@@ -148,6 +148,9 @@ fn add_element(
     ensures adds { IfOk result (λ _. Adds (λ w. IsWay inventory.now places.now.places w × (w.element ≡ number)) (IsDone inventory.now places.now.places frames.new.keys) moves.old moves.new) }
 {
     inventory.is_merged();
+    if far_ports(inventory, number).is_empty() {
+        return Ok(());
+    }
     let ports = near_ports(inventory, number);
     for place in 0..ports.len() {
         add_near_port(inventory, places, frames, moves, number, ports[place])?;

@@ -1,8 +1,12 @@
-use Rattle.std.proofs.Common.{arith}
+use Rattle.std.proofs.Common.{arith, length, sym, ◌∙◌}
+use Rattle.std.proofs.lemmas.Bool.{eqb-true}
 use Rattle.std.proofs.lemmas.Option.{slice_get-get_or}
-use Rattle.machine_build.proofs.Passed.{done_next, element_whole, from_port, from_port_apart, goes_on_none, goes_on_then, near_port}
+use Rattle.machine_build.proofs.Passed.{done_next, element_whole, from_port, from_port_apart, goes_on_none, goes_on_then, near_port, no_far}
 use Rattle.machine_build.proofs.Growing.{adds_first}
 use Rattle.machine_build.proofs.adding.add_element.Goals as goal
+
+pub returns-then-is_empty-clause-adds : goal.returns-then-is_empty-clause-adds
+returns-then-is_empty-clause-adds c = no_far c.args.inventory.now c.args.places.now.places c.args.number c.far_ports.result.now c.far_ports.ensures (eqb-true (length c.far_ports.result.now) 0 (sym c.is_empty.ensures ∙ c.if-is_empty.true)) c.args.frames.now.keys c.args.moves.now
 
 pub loop-place-init : goal.loop-place-init
 loop-place-init c = (goes_on_none c.args.frames.now.keys, adds_first _ _ 0 c.args.moves.now)
