@@ -43,8 +43,8 @@ overtaken_offered steps table queue prev k pushed found over nested p s =
     nested over.number over.pair over.early over.found over.way (pot over.pair.root u.to w) (record { item = s.item; listed = s.listed; gives = record { number = l; gives = nest } }) in
     let lower : IsCappedAtMost w (stepped (capped_total (stepped prev.weight pushed) s.item.weight) u) =
     capped_total-at_most (capped_total (stepped over.pair.weight over.push) s.item.weight) (capped_total (stepped prev.weight pushed) s.item.weight) (cap (record { cost = u.cost; hops = 1 })) (cap (record { cost = u.cost; hops = 1 }))
-        (capped_total-at_most (stepped over.pair.weight over.push) (stepped prev.weight pushed) s.item.weight s.item.weight over.same.at_most (at_most-same s.item.weight))
-        (at_most-same (cap (record { cost = u.cost; hops = 1 }))) in
+    (capped_total-at_most (stepped over.pair.weight over.push) (stepped prev.weight pushed) s.item.weight s.item.weight over.same.at_most (at_most-same s.item.weight))
+    (at_most-same (cap (record { cost = u.cost; hops = 1 }))) in
     let is : p ≡ pot prev.root u.to (stepped (capped_total (stepped prev.weight pushed) s.item.weight) u) =
     n.is ∙ ap (λ t. pot prev.root u.to (stepped (capped_total (stepped prev.weight t) s.item.weight) u)) same in
     subst (λ v. IsOffered queue v) (sym is) (record {
