@@ -1,7 +1,6 @@
 -- A push that need not be followed, since an earlier pair led the same way at no more.
 use Rattle.std.proofs.Common.{◌≡◌, ℕ, ◌+◌, ◌<◌, ◌⊎◌, List, [], ◌∷◌, ◌++◌, length, refl, sym, ◌∙◌, ap, subst, inl, inr, arith, Contains, Some, slice_get}
 use Rattle.std.proofs.lemmas.Grind.{common_steps}
-use Rattle.ml_base.specs.declared.numbers.StateNo.{StateNo}
 use Rattle.ml_base.specs.declared.numbers.StepNo.{StepNo}
 use Rattle.ml_base.specs.declared.numbers.Root.TheVariants.{Entry}
 use Rattle.ml_base.specs.declared.weight.Weight.{Weight}
@@ -11,7 +10,7 @@ use Rattle.adapt_machine.specs.declared.MachineStep.{MachineStep}
 use Rattle.segment_grammar.specs.declared.potentials.Pot.{Pot}
 use Rattle.segment_grammar.specs.Pots.{pot}
 use Rattle.segment_grammar.specs.Index.{IsPushFrom, IsPopAt}
-use Rattle.segment_grammar.proofs.Places.{same_at, contains_at, pushed_at, slice_get-below}
+use Rattle.segment_grammar.proofs.Places.{same_at, contains_at, pushed_at}
 use Rattle.knuth_search.specs.Following.{stepped, IsStepOf, NestedBy, Closes, Fills, SomePot, IsOffered, Offers}
 use Rattle.knuth_search.specs.Offered.{offered_at}
 use Rattle.knuth_search.specs.Overtaken.{IsOvertaken, AreNested, IsClosedBefore}
