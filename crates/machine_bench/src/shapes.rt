@@ -179,8 +179,8 @@ fn ways(alloc: Global, ways: u64) -> Result<Task, ShapeFault> {
     if ways == 0 {
         return Err(ShapeFault::Range);
     }
-    let states = sum(product(2, ways)?, 1)?;
-    let mut machine = Machine::new(alloc, states, 1);
+    let last = product(2, ways)?;
+    let mut machine = Machine::new(alloc, sum(last, 1)?, 1);
     row(&mut machine, 0, ways)?;
     for way in 0..ways {
         push(&mut machine, way, ways, 0, 1)?;
@@ -189,7 +189,7 @@ fn ways(alloc: Global, ways: u64) -> Result<Task, ShapeFault> {
     Ok(Task {
         machine,
         start: StateNo(0),
-        target: StateNo(states - 1),
+        target: StateNo(last),
     })
 }
 
