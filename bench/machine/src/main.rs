@@ -1,6 +1,6 @@
 //! Cheapest nested walks of a pushdown machine, in plain Rust: a yardstick for the proved search.
 //!
-//! usage: machine_base chain STATES | roots ROOTS SIZE | shared ROOTS SIZE | nest LEVELS
+//! usage: machine_base chain STATES | roots ROOTS SIZE | shared ROOTS SIZE | nest LEVELS | ways WAYS
 
 mod machine;
 mod search;
@@ -57,8 +57,9 @@ fn main() -> ExitCode {
         (Some("roots"), Some(&[roots, size])) => shapes::roots(roots, size),
         (Some("shared"), Some(&[roots, size])) => shapes::shared(roots, size),
         (Some("nest"), Some(&[levels])) => shapes::nest(levels),
+        (Some("ways"), Some(&[ways])) => shapes::ways(ways),
         _ => {
-            eprintln!("usage: machine_base chain STATES | roots ROOTS SIZE | shared ROOTS SIZE | nest LEVELS");
+            eprintln!("usage: machine_base chain STATES | roots ROOTS SIZE | shared ROOTS SIZE | nest LEVELS | ways WAYS");
             return ExitCode::from(2);
         }
     };

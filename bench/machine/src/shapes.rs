@@ -67,3 +67,16 @@ pub fn nest(levels: u64) -> Shape {
     }
     Shape { machine, starts: vec![3 * levels], targets: vec![3 * levels + 2] }
 }
+
+/// A row of states, each of which pushes one frame into one state, whence pops lead to as many states.
+pub fn ways(ways: u64) -> Shape {
+    let mut machine = Machine::new(2 * ways + 1, 1);
+    for place in 1..ways {
+        machine.add(Kind::Flat, place - 1, place, 0, 1);
+    }
+    for way in 0..ways {
+        machine.add(Kind::Push, way, ways, 0, 1);
+        machine.add(Kind::Pop, ways, ways + 1 + way, 0, 1);
+    }
+    Shape { machine, starts: vec![0], targets: vec![2 * ways] }
+}

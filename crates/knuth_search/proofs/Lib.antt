@@ -5,6 +5,7 @@ pub mod Filed
 pub mod Deriving
 pub mod Offering
 pub mod Turning
+pub mod Overtaking
 pub mod Gathering
 pub mod Choosing
 pub mod Marking

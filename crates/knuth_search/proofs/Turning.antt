@@ -22,6 +22,7 @@ use Rattle.knuth_search.specs.Derived.{Task, IsDerived}
 use Rattle.knuth_search.proofs.Deriving.{derived_segment, derived_weight}
 use Rattle.knuth_search.specs.Following.{zero, stepped, IsCovered, IsOffered, IsBeaten, IsStepOf, NestedBy, Closes, PushedBy, Extends, Fills, SomePot, Offers}
 use Rattle.knuth_search.specs.Offered.{offered_at}
+use Rattle.knuth_search.specs.Overtaken.{IsClosed}
 use Rattle.knuth_search.specs.Tables.{Queued}
 use Rattle.knuth_search.specs.Searching.{Begins, Follows, Turns, IsComplete}
 use Rattle.knuth_search.proofs.Filed.{covered_itself}
@@ -66,6 +67,12 @@ module _ (steps : List MachineStep) (table table' : List Pot) (next : Pot) (adde
 
 lighter_of : (u w : Weight) → (IsCappedAtMost w u → ⊥) → IsCappedAtMost u w
 lighter_of u w less = elim (at_most-either u w) as (λ v. IsCappedAtMost u w) [ inl a ↦ a | inr b ↦ absurd (less b) ]
+
+-- what followed from the table was offered still, when a pair has left the queue
+pub closed_popped : (steps : List MachineStep) (starts : List StateNo) (table : List Pot) (queue popped : Queued) → popped.offered ≡ queue.offered → IsSearching steps starts table queue → IsClosed steps table popped
+closed_popped steps starts table queue popped same is v p c e =
+    let o : IsOffered queue p = is.closed v p c e in
+    record { weight = o.weight; found = subst (λ m. offered_at m p.root p.state ≡ Some o.weight) (sym same) o.found; at_most = o.at_most }
 
 -- a pair that leaves the queue
 module _ (steps : List MachineStep) (starts : List StateNo) (table : List Pot) (queue popped : Queued) (next : Pot)

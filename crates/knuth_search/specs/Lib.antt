@@ -4,6 +4,7 @@ pub mod Tables
 pub mod Buckets
 pub mod Lanes
 pub mod Following
+pub mod Overtaken
 pub mod Searching
 pub mod Settled
 pub mod Gathered

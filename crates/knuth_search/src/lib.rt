@@ -14,6 +14,7 @@ mod settled;
 mod table;
 #[cfg(test)]
 mod tests;
+mod ways;
 
 pub use run::search;
 pub use settled::Settled;

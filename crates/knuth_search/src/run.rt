@@ -5,6 +5,7 @@ ghost use Rattle.ml_base.specs.declared.numbers.Root.TheVariants.{Request};
 ghost use Rattle.segment_grammar.specs.Index.{IsIndexOf};
 ghost use Rattle.segment_grammar.specs.Pots.{pot};
 ghost use Rattle.knuth_search.specs.Following.{zero, Offers};
+ghost use Rattle.knuth_search.specs.Overtaken.{IsClosed};
 ghost use Rattle.knuth_search.specs.Searching.{Begins, Turns, IsComplete};
 ghost use Rattle.knuth_search.specs.Settled.{IsSettledOf};
 ghost use Rattle.knuth_search.specs.Tables.{pot_of, IsKept};
@@ -14,6 +15,7 @@ use crate::queue::Queue;
 use crate::settle::{Setting, settle};
 use crate::settled::{Settled, gather};
 use crate::table::Table;
+use crate::ways::Ways;
 use adapt_machine::Machine;
 use bumpalo::Bump;
 use deriv_arena::root;
@@ -71,12 +73,14 @@ fn turn<'m, 'a>(
     setting: Setting<'m, 'a>,
     table: &mut Table<'m, 'a>,
     queue: &mut Queue<'m, 'a>,
+    ways: &mut Ways,
     next: Derived<'a>,
 ) -> Result<(), NoMemory>
     requires table { table.old.task ≡ queue.old.task }
     requires machine { queue.old.task.machine ≡ setting.machine.now }
     requires index { IsIndexOf setting.machine.now setting.index.now }
     requires kept { IsKept queue.old.task next }
+    requires closed { IsClosed setting.machine.now.steps table.old.pots queue.old }
     ensures table_task { table.new.task ≡ table.old.task }
     ensures queue_task { queue.new.task ≡ queue.old.task }
     ensures turns { IfOk result (λ _. Turns setting.entry.machine.now.steps table.old.pots queue.old (pot_of next.entry) table.new.pots queue.new) }
@@ -85,7 +89,7 @@ fn turn<'m, 'a>(
         return Ok(());
     }
     table.put(next)?;
-    settle(setting, table, queue, next)?;
+    settle(setting, table, queue, ways, next)?;
     Ok(())
 }
 
@@ -110,12 +114,13 @@ fn search_table<'m, 'a>(
     let mut table = Table::new(alloc, machine, index, starts)?;
     let plan = Plan::new(alloc, machine)?;
     let mut queue = Queue::new(alloc, machine, starts, plan)?;
+    let mut ways = Ways::new(alloc);
     begin(arena, &mut queue, starts)?;
     for _ in 0..u64::MAX {
         let Some(next) = queue.pop() else {
             return Ok(table);
         };
-        turn(setting, &mut table, &mut queue, next)?;
+        turn(setting, &mut table, &mut queue, &mut ways, next)?;
     }
     Err(NoMemory)
 }

@@ -4,11 +4,13 @@ ghost use Rattle.segment_grammar.specs.Index.{IsFlatFrom, IsPushFrom, IsIndexOf}
 ghost use Rattle.adapt_machine.specs.declared.MachineStep.{MachineStep};
 ghost use Rattle.adapt_machine.specs.declared.MachineKind.TheVariants.{Push};
 ghost use Rattle.knuth_search.specs.Following.{ArePopsOf, stepped, IsStepOf, Enters, Meets, FlatBy, OpenedBy, NestedBy, Closes, PushedBy, Extends, Fills, SomeStep, SomePot, Offers};
+ghost use Rattle.knuth_search.specs.Overtaken.{AreNested, IsClosedBefore};
 ghost use Rattle.knuth_search.specs.Tables.{pot_of, IsKept};
 
 use crate::derived::Derived;
 use crate::queue::Queue;
 use crate::table::Table;
+use crate::ways::Ways;
 use adapt_machine::{Machine, MachineStep};
 use bumpalo::Bump;
 use deriv_arena::{flat, nest, root};
@@ -24,7 +26,7 @@ pub struct Setting<'m, 'a> {
 }
 
 /// The weight with one more step.
-fn stepped(weight: Weight, step: MachineStep) -> Weight
+pub fn stepped(weight: Weight, step: MachineStep) -> Weight
     ensures { result ≡ stepped weight step }
 {
     weight.plus(Weight::known(step.cost, 1))
@@ -206,11 +208,13 @@ fn nests<'m, 'a>(
     Ok(())
 }
 
-/// Offers what follows from the pair by the push.
-fn push_by<'m, 'a>(
+/// Offers what the pair, the push and each settled inner pair give, unless an earlier pair led the same way at no more: what it gave
+/// was offered.
+fn nests_once<'m, 'a>(
     setting: Setting<'m, 'a>,
     table: &Table<'m, 'a>,
     queue: &mut Queue<'m, 'a>,
+    ways: &mut Ways,
     prev: Derived<'a>,
     number: StepNo,
 ) -> Result<(), NoMemory>
@@ -219,11 +223,39 @@ fn push_by<'m, 'a>(
     requires index { IsIndexOf setting.machine.now setting.index.now }
     requires kept { IsKept queue.old.task prev }
     requires push { IsStepOf setting.machine.now.steps (IsPushFrom prev.state) number }
+    requires nested { AreNested setting.machine.now.steps table.now.pots queue.old }
+    ensures task { queue.new.task ≡ queue.old.task }
+    ensures offers { IfOk result (λ _. Offers (λ p. SomePot table.now.pots (λ inner p. Closes setting.entry.machine.now.steps (pot_of prev.entry) number inner p) p) queue.old queue.new) }
+{
+    let pushed = setting.machine.step(number);
+    if ways.overtake(setting.machine, table, prev, pushed) {
+        return Ok(());
+    }
+    nests(setting, table, queue, prev, number)?;
+    ways.note(table, prev.root, number, pushed)?;
+    Ok(())
+}
+
+/// Offers what follows from the pair by the push.
+fn push_by<'m, 'a>(
+    setting: Setting<'m, 'a>,
+    table: &Table<'m, 'a>,
+    queue: &mut Queue<'m, 'a>,
+    ways: &mut Ways,
+    prev: Derived<'a>,
+    number: StepNo,
+) -> Result<(), NoMemory>
+    requires table { table.now.task ≡ queue.old.task }
+    requires nested { AreNested setting.machine.now.steps table.now.pots queue.old }
+    requires machine { queue.old.task.machine ≡ setting.machine.now }
+    requires index { IsIndexOf setting.machine.now setting.index.now }
+    requires kept { IsKept queue.old.task prev }
+    requires push { IsStepOf setting.machine.now.steps (IsPushFrom prev.state) number }
     ensures task { queue.new.task ≡ queue.old.task }
     ensures offers { IfOk result (λ _. Offers (PushedBy setting.entry.machine.now.steps table.now.pots (pot_of prev.entry) number) queue.old queue.new) }
 {
     open(setting, queue, prev, number)?;
-    nests(setting, table, queue, prev, number)?;
+    nests_once(setting, table, queue, ways, prev, number)?;
     Ok(())
 }
 
@@ -232,9 +264,11 @@ fn pushes<'m, 'a>(
     setting: Setting<'m, 'a>,
     table: &Table<'m, 'a>,
     queue: &mut Queue<'m, 'a>,
+    ways: &mut Ways,
     prev: Derived<'a>,
 ) -> Result<(), NoMemory>
     requires table { table.now.task ≡ queue.old.task }
+    requires nested { AreNested setting.machine.now.steps table.now.pots queue.old }
     requires machine { queue.old.task.machine ≡ setting.machine.now }
     requires index { IsIndexOf setting.machine.now setting.index.now }
     requires kept { IsKept queue.old.task prev }
@@ -243,7 +277,7 @@ fn pushes<'m, 'a>(
 {
     let numbers = setting.index.pushes(prev.state);
     for number in 0..numbers.len() {
-        push_by(setting, table, queue, prev, numbers[number])?;
+        push_by(setting, table, queue, ways, prev, numbers[number])?;
     }
     Ok(())
 }
@@ -323,22 +357,25 @@ fn fill<'m, 'a>(
     Ok(())
 }
 
-/// Offers what follows from a settled pair.
+/// Offers what follows from a settled pair, the last of the table: as the inner part of a nest first, so that all nests of the earlier
+/// pairs are offered when its own pushes are followed.
 pub fn settle<'m, 'a>(
     setting: Setting<'m, 'a>,
     table: &Table<'m, 'a>,
     queue: &mut Queue<'m, 'a>,
+    ways: &mut Ways,
     next: Derived<'a>,
 ) -> Result<(), NoMemory>
     requires table { table.now.task ≡ queue.old.task }
     requires machine { queue.old.task.machine ≡ setting.machine.now }
     requires index { IsIndexOf setting.machine.now setting.index.now }
     requires kept { IsKept queue.old.task next }
+    requires closed { IsClosedBefore setting.machine.now.steps table.now.pots (pot_of next) queue.old }
     ensures task { queue.new.task ≡ queue.old.task }
     ensures offers { IfOk result (λ _. Offers (λ p. Extends setting.entry.machine.now.steps table.now.pots (pot_of next.entry) p ⊎ Fills setting.entry.machine.now.steps table.now.pots (pot_of next.entry) p) queue.old queue.new) }
 {
-    flats(setting, queue, next)?;
-    pushes(setting, table, queue, next)?;
     fill(setting, table, queue, next)?;
+    flats(setting, queue, next)?;
+    pushes(setting, table, queue, ways, next)?;
     Ok(())
 }

@@ -130,6 +130,21 @@ impl<'m, 'a> Table<'m, 'a> {
         self.pops[state.0 as usize]
     }
 
+    /// How many pairs there are.
+    pub fn len(&self) -> u64
+        ensures { result ≡ length self.now.pots }
+    {
+        self.items.len() as u64
+    }
+
+    /// The pair at this place, in the order in which they were settled.
+    pub fn item(&self, place: u64) -> Derived<'a>
+        requires { place < length self.now.pots }
+        ensures { slice_get self.now.pots place ≡ Some (pot_of result) }
+    {
+        self.items[place as usize]
+    }
+
     /// The pairs in the order in which they were settled.
     pub fn into_items(self) -> Vec<Derived<'a>>
         ensures pots { map pot_of result.items ≡ self.entry.pots }

@@ -164,7 +164,7 @@ fn both_agree(alloc: Global, machine: &Machine, starts: &[StateNo]) -> Result<bo
 fn search_and_saturation_agree(rt: HostRuntime) -> Result<(), Fail> {
     let alloc = rt.alloc();
     let most = 18_446_744_073_709_551_615;
-    let cases: [(&str, u64, u64, &[Small]); 12] = [
+    let cases: [(&str, u64, u64, &[Small]); 15] = [
         ("no steps", 2, 0, &[]),
         (
             "a loop of no cost",
@@ -233,6 +233,50 @@ fn search_and_saturation_agree(rt: HostRuntime) -> Result<(), Fail> {
                 (Pop, 4, 1, 0, 1),
                 (Pop, 4, 2, 1, 1),
                 (Flat, 3, 4, 0, 1),
+            ],
+        ),
+        (
+            "a later way in that weighs more",
+            6,
+            1,
+            &[
+                (Push, 0, 2, 0, 1),
+                (Flat, 0, 1, 0, 1),
+                (Push, 1, 2, 0, 1),
+                (Flat, 2, 3, 0, 1),
+                (Pop, 2, 4, 0, 1),
+                (Pop, 3, 5, 0, 1),
+            ],
+        ),
+        (
+            "a later way in that weighs less",
+            6,
+            1,
+            &[
+                (Push, 0, 2, 0, 9),
+                (Flat, 0, 1, 0, 1),
+                (Push, 1, 2, 0, 1),
+                (Flat, 2, 3, 0, 1),
+                (Pop, 2, 4, 0, 1),
+                (Pop, 3, 5, 0, 1),
+            ],
+        ),
+        (
+            "two ways in from each root of a cycle",
+            6,
+            2,
+            &[
+                (Push, 0, 1, 0, 1),
+                (Flat, 1, 2, 0, 1),
+                (Push, 1, 2, 1, 1),
+                (Push, 2, 1, 0, 1),
+                (Push, 1, 1, 0, 0),
+                (Flat, 2, 3, 0, 1),
+                (Push, 3, 2, 1, 0),
+                (Pop, 3, 4, 1, 0),
+                (Pop, 4, 3, 0, 1),
+                (Flat, 4, 5, 0, 1),
+                (Pop, 5, 0, 0, 1),
             ],
         ),
         (

@@ -1,7 +1,7 @@
 //! Builds a machine of a named shape, searches it, and prints counts. It is measured beside the plain Rust program in
 //! bench/machine, which prints the same lines.
 //!
-//! usage: machine_bench chain STATES | roots ROOTS SIZE | shared ROOTS SIZE | nest LEVELS
+//! usage: machine_bench chain STATES | roots ROOTS SIZE | shared ROOTS SIZE | nest LEVELS | ways WAYS
 #![tactic(auto)]
 
 mod counts;
@@ -28,6 +28,7 @@ fn shape_of(words: &[String]) -> Option<Shape> {
     match (name.as_str(), second, words.len()) {
         ("chain", None, 3) => Some(Shape::Chain { states: first }),
         ("nest", None, 3) => Some(Shape::Nest { levels: first }),
+        ("ways", None, 3) => Some(Shape::Ways { ways: first }),
         ("roots", Some(size), 4) => Some(Shape::Roots { roots: first, size }),
         ("shared", Some(size), 4) => Some(Shape::Shared { roots: first, size }),
         _ => None,
@@ -46,7 +47,7 @@ fn main(rt: HostRuntime) -> Result<ExitCode> {
     let words = words(&rt)?;
     let Some(shape) = shape_of(words.as_slice()) else {
         eprintln!(rt;
-            "usage: machine_bench chain STATES | roots ROOTS SIZE | shared ROOTS SIZE | nest LEVELS"
+            "usage: machine_bench chain STATES | roots ROOTS SIZE | shared ROOTS SIZE | nest LEVELS | ways WAYS"
         )?;
         return Ok(ExitCode::from(2));
     };

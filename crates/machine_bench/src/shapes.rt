@@ -31,6 +31,8 @@ pub enum Shape {
     /// Levels of three states; each but the lowest goes from its first to its second, and from that to its third, through
     /// the level below, so that the walk doubles with each level.
     Nest { levels: u64 },
+    /// A row of states, each of which pushes one frame into one state, whence pops lead to as many states.
+    Ways { ways: u64 },
 }
 
 /// A machine, and where its search begins and ends.
@@ -173,6 +175,24 @@ fn nest(alloc: Global, levels: u64) -> Result<Task, ShapeFault> {
     })
 }
 
+fn ways(alloc: Global, ways: u64) -> Result<Task, ShapeFault> {
+    if ways == 0 {
+        return Err(ShapeFault::Range);
+    }
+    let last = product(2, ways)?;
+    let mut machine = Machine::new(alloc, sum(last, 1)?, 1);
+    row(&mut machine, 0, ways)?;
+    for way in 0..ways {
+        push(&mut machine, way, ways, 0, 1)?;
+        pop(&mut machine, ways, sum(ways, way + 1)?, 0, 1)?;
+    }
+    Ok(Task {
+        machine,
+        start: StateNo(0),
+        target: StateNo(last),
+    })
+}
+
 /// The machine of this shape.
 pub fn task_of(alloc: Global, shape: Shape) -> Result<Task, ShapeFault> {
     match shape {
@@ -180,5 +200,6 @@ pub fn task_of(alloc: Global, shape: Shape) -> Result<Task, ShapeFault> {
         Shape::Roots { roots: count, size } => roots(alloc, count, size),
         Shape::Shared { roots: count, size } => shared(alloc, count, size),
         Shape::Nest { levels } => nest(alloc, levels),
+        Shape::Ways { ways: count } => ways(alloc, count),
     }
 }

@@ -1,4 +1,4 @@
-use domain_config::Rule;
+use device_rules::Rule;
 use keyed_hash::{Keyed, ReadDigest};
 use ml_base::{Id, Tag};
 use nml_inventory::Inventory;

@@ -1,6 +1,6 @@
 use Rattle.std.proofs.Common.{◌∙◌, ◌<◌, subst, sym}
 use Rattle.knuth_search.specs.Tables.{pot_of}
-use Rattle.knuth_search.proofs.Turning.{searching_begun, searching_turn, is_complete}
+use Rattle.knuth_search.proofs.Turning.{searching_begun, searching_turn, closed_popped, is_complete}
 use Rattle.knuth_search.proofs.run.search_table.Goals as goal
 
 pub begin-requires-clause-within : goal.begin-requires-clause-within
@@ -12,6 +12,9 @@ loop-init c = record {
   table = c.in_ok-table.ensures.task;
   queue = c.begin.ensures.task ∙ c.in_ok-queue.ensures.task;
 }
+
+pub turn-requires-clause-closed : goal.turn-requires-clause-closed
+turn-requires-clause-closed c = closed_popped c.args.machine.now.steps c.args.starts.now c.loop.table.pots c.loop.queue c.pop.new.self c.pop.ensures.offered c.loop.invariant.searching
 
 pub loop-preserved : goal.loop-preserved
 loop-preserved c = record {
