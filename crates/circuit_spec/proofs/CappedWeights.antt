@@ -1,10 +1,11 @@
 -- The outcome by capped weights is the outcome, over all walks and over those of kept labels.
-use Rattle.std.proofs.Common.{◌≡◌, ◌⊎◌, ◌<◌, ◌≤◌, ◌^◌, ◌↔◌, ℕ, inl, inr, refl, sym, ◌∙◌, ap, subst, min, arith}
+use Rattle.std.proofs.Common.{◌≡◌, ◌<◌, ◌≤◌, ◌^◌, ◌↔◌, ℕ, refl, sym, ◌∙◌, ap, subst, min, arith}
 use Rattle.std.proofs.Math.Nat.{min-le_left}
 use Rattle.std.proofs.lemmas.Grind.{common_steps}
 use Rattle.ml_base.specs.Weight.{FullWeight, IsAtMost, IsCappedAtMost, cap}
 use Rattle.ml_base.specs.declared.weight.Weight.{Weight}
 use Rattle.ml_base.specs.declared.weight.Weight.TheVariants.{Known, Past}
+use Rattle.ml_base.proofs.Laws.{at_most-antisym}
 use Rattle.circuit_spec.specs.declared.hops.Request.{Request}
 use Rattle.circuit_spec.specs.declared.hops.TheConstants.{HOP_LIMIT}
 use Rattle.circuit_spec.specs.declared.hops.Outcome.{Outcome}
@@ -44,17 +45,6 @@ capped_below c h small below = grind (arith, common_steps)
 over_limit : (n h : ℕ) → min n (2 ^ 40) ≡ h → 65536 < n → 65536 < h
 over_limit n h e over = grind (arith, common_steps)
 
-pub one_capped : (v w : Weight) → IsCappedAtMost v w → IsCappedAtMost w v → v ≡ w
-one_capped (Known a h) (Known b k) p q = known_on a h b k p q where
-  known_on : (a h b k : ℕ) → (a < b) ⊎ ((a ≡ b) × (h ≤ k)) → (b < a) ⊎ ((b ≡ a) × (k ≤ h)) → Known a h ≡ Known b k
-  known_on a h b k (inl x) (inl y) = absurd (omega arith)
-  known_on a h b k (inl x) (inr (y, _)) = absurd (omega arith)
-  known_on a h b k (inr (x, _)) (inl y) = absurd (omega arith)
-  known_on a h b k (inr (x, m)) (inr (y, n)) = let hops : h ≡ k = omega arith in cc
-one_capped (Known a h) Past p q = absurd q
-one_capped Past (Known b k) p q = absurd p
-one_capped Past Past p q = refl
-
 -- From capped weights.
 
 abbrev full : ℕ → ℕ → FullWeight
@@ -92,7 +82,7 @@ same_capped : (T : Topology) (r : Request) (v : Weight) (w : FullWeight) → IsL
 same_capped T r v w capped least =
     let up = subst (λ x. IsCappedAtMost v (cap x)) least.weight (capped.least least.hops least.walk) in
     let down = subst (λ x. IsCappedAtMost (cap w) x) capped.weight (cap_order w (weight_of T capped.hops) (least.least capped.hops capped.holds)) in
-    one_capped (cap w) v down up
+    at_most-antisym (cap w) v down up
 
 -- To capped weights.
 

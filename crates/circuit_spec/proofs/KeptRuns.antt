@@ -7,6 +7,8 @@ use Rattle.std.proofs.lemmas.List.Sums.{sum_by-cons}
 use Rattle.ml_base.specs.Weight.{FullWeight}
 use Rattle.ml_base.specs.declared.numbers.Wish.{Wish}
 use Rattle.ml_base.specs.declared.numbers.Wish.TheVariants.{Any, Value}
+use Rattle.ml_base.proofs.Lists.{among_filter_map, contains_among}
+use Rattle.ml_base.specs.Lists.{IsAmong}
 use Rattle.nml_elements.specs.declared.elements.Labels.{Labels}
 use Rattle.nml_elements.specs.declared.elements.Labels.TheVariants.{Unlabelled, Of}
 use Rattle.nml_elements.specs.declared.elements.LinkE.{LinkE}
@@ -25,11 +27,10 @@ use Rattle.circuit_spec.specs.Kept.{StatesAt, IsClassOfType, IsLinkOfType, AreAl
 use Rattle.circuit_spec.specs.Segments.{IsWalkOverKept}
 use Rattle.circuit_spec.specs.Keeping.{Keeping, GivesKeepers, kept_tag, type_at, kept_hop, kept_frame, kept_unit, kept_hops}
 use Rattle.circuit_spec.specs.Faults.{IsSound, own_type, switch_at}
-use Rattle.circuit_spec.proofs.Among.{IsAmong, among_first, among_find}
+use Rattle.circuit_spec.proofs.Among.{among_first, among_find}
 use Rattle.circuit_spec.proofs.Alone.{found_port, All-among}
 use Rattle.circuit_spec.proofs.ClassLemmas.{First-unique, class_of_itself}
-use Rattle.circuit_spec.proofs.Lists.{contains_among, among_filter_map}
-use Rattle.circuit_spec.proofs.Types.{type_at_port, type_at_class, port_of_linked, OneType, link_type, switch_type}
+use Rattle.circuit_spec.proofs.Types.{type_at_port, type_at_class, OneType, link_type, switch_type, port_of_class}
 
 -- an unlabelled class has no label in its set
 no_label : (T : Topology) (port : Name) (class : Port) (label : ℕ) (A : Type 0) → IsClass T port class → label_type class.labels ≡ None → IsInClassSet T class label → A
@@ -73,9 +74,6 @@ carried T r keeping gives l held (Of labeltype set) e t own (Some label) h =
     subst P (sym (own (Some labeltype) refl)) stays_in
 
 -- Both ends of a hop have one label type, where its element relates ports of one.
-port_at_class : (T : Topology) (id : Name) (class : Port) → IsClass T id class → (p : Port) × IsAmong (ports T) p × (p.id ≡ id)
-port_at_class T id class first = let f = among_first (λ q. Linked T id q.id) (ports T) class first in port_of_linked T id class f.0 f.1
-
 record Typed (T : Topology) (stated : Option (Option Name)) (from to : Name) : Type 0 where
   same : type_at T to ≡ type_at T from
   own : (t : Option Name) → stated ≡ Some t → type_at T from ≡ t
@@ -95,8 +93,8 @@ link_ends T placed l from to sound held is sends takes =
 
 switch_ends : (T : Topology) (placed : Placed) (s : SwitchE) (from to : Name) (from_class to_class : Port) → IsSound T → IsAmong (elements_of T) placed → switch_at placed.element ≡ Some s → IsClass T from from_class → IsClass T to to_class → names (inbound_of T s) from ≡ true → names (outbound_of T s) to ≡ true → Typed T None from to
 switch_ends T placed s from to from_class to_class sound held is first_from first_to goes_in goes_out =
-    let p = port_at_class T from from_class first_from in
-    let q = port_at_class T to to_class first_to in
+    let p = port_of_class T from from_class first_from in
+    let q = port_of_class T to to_class first_to in
     let in_p : names (inbound_of T s) p.0.id ≡ true = ap (names (inbound_of T s)) p.2 ∙ goes_in in
     let out_q : names (outbound_of T s) q.0.id ≡ true = ap (names (outbound_of T s)) q.2 ∙ goes_out in
     typed_by T None from to p.0 q.0 sound p.1 p.2 q.1 q.2

@@ -5,13 +5,15 @@ use Rattle.std.proofs.lemmas.Bool.{or_cases, and_parts}
 use Rattle.std.proofs.lemmas.Slice.Eq.{bytes_eq-Decides}
 use Rattle.ml_base.specs.declared.numbers.Wish.{Wish}
 use Rattle.ml_base.specs.declared.numbers.Wish.TheVariants.{Value}
+use Rattle.ml_base.proofs.Lists.{any_among}
+use Rattle.ml_base.specs.Lists.{IsAmong}
 use Rattle.circuit_spec.specs.declared.faults.RequestFault.{RequestFault}
 use Rattle.circuit_spec.specs.declared.faults.RequestFault.TheVariants.{UnknownPort, LabelNotHere}
 use Rattle.circuit_spec.specs.declared.hops.Request.{Request}
 use Rattle.circuit_spec.specs.Network.{Name, Topology, Port, ports, port_has, names, states_alias, Linked, IsClass, IsInClassSet}
 use Rattle.circuit_spec.specs.Faults.{IsHere, IsKnown, IsKnownEnd}
 use Rattle.circuit_spec.specs.Requests.{IsPort, IsMissedAt, IsRequestFault}
-use Rattle.circuit_spec.proofs.Among.{IsAmong, any_among, among_first}
+use Rattle.circuit_spec.proofs.Among.{among_first}
 use Rattle.circuit_spec.proofs.Alone.{found_port}
 use Rattle.circuit_spec.proofs.ClassLemmas.{First-unique}
 

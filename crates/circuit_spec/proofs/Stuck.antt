@@ -4,6 +4,8 @@ use Rattle.std.specs.Str.{bytes_eq}
 use Rattle.std.specs.List.{list_any}
 use Rattle.std.proofs.lemmas.Bool.{false≢true}
 use Rattle.ml_base.specs.declared.numbers.Wish.TheVariants.{Value}
+use Rattle.ml_base.proofs.Lists.{any_among}
+use Rattle.ml_base.specs.Lists.{IsAmong}
 use Rattle.nml_elements.specs.declared.elements.Element.{Element}
 use Rattle.nml_elements.specs.declared.elements.Element.TheVariants as element
 use Rattle.circuit_spec.specs.declared.hops.Frame.{Frame}
@@ -14,7 +16,7 @@ use Rattle.circuit_spec.specs.declared.hops.Unit.{Unit as DataUnit}
 use Rattle.circuit_spec.specs.Network.{Name, Topology, Placed, Port}
 use Rattle.circuit_spec.specs.Network.{elements_of, id_of, names, ports, sends_into, serves, takes_from}
 use Rattle.circuit_spec.specs.Steps.{Ends, IsOutcome, Rule, Run, Step, inbound_of, outbound_of, unit_at}
-use Rattle.circuit_spec.proofs.Among.{IsAmong, among_find, any_among}
+use Rattle.circuit_spec.proofs.Among.{among_find}
 use Rattle.circuit_spec.proofs.Alone.{NoAliases, class_alone}
 use Rattle.circuit_spec.proofs.Tunnel.{apart}
 

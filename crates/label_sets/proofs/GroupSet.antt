@@ -4,19 +4,16 @@ use Rattle.std.specs.Option.{is_some}
 use Rattle.std.specs.List.{AllByRecursion}
 use Rattle.std.proofs.lemmas.Bool.{cases_lt, ltb-true, ltb-false}
 use Rattle.std.proofs.lemmas.Bool.Decides.{nat_tests}
+use Rattle.std.proofs.Math.Bool.{or_assoc}
 use Rattle.label_sets.specs.Ranges.{RiseFrom, AreRanges, is_within, has, IsSetOf}
 use Rattle.label_sets.specs.GroupText.{IsGroupText, IsNoGroupText, IsSetOfText, IsRefusedAt, one, more}
 use Rattle.label_sets.specs.Reading.{Front, fresh, range_of, run, accepts}
 use Rattle.label_sets.specs.GroupSet.{SomeRanges, all_of, with_range, set_of, longest_within, group_from, group_of}
 use Rattle.label_sets.proofs.Canonical.{set_is_one}
-use Rattle.label_sets.proofs.Merge.{has-append}
+use Rattle.label_sets.proofs.Merge.{has-append, raise}
 use Rattle.label_sets.proofs.Scan.{run_group, group_run, group_accepted, accepted_group, refused_group}
 
 -- ---- a set with one more range
-
-raise : (j k : ℕ) (set : List (ℕ × ℕ)) → j ≤ k → RiseFrom k set → RiseFrom j set
-raise j k [] le up = tt
-raise j k (s ∷ rest) le up = (omega (arith, up.0), up.1, up.2, up.3)
 
 rise_by : (start : ℕ) (r s : ℕ × ℕ) (rest : List (ℕ × ℕ)) (apart joined : SomeRanges) (b c : Bool) → ltb (r.1 + 1) s.0 ≡ b → ltb (s.1 + 1) r.0 ≡ c
     → start ≤ r.0 → r.0 ≤ r.1 → r.1 < 2 ^ 32 → RiseFrom start (s ∷ rest) → (s.1 + 2 ≤ r.0 → RiseFrom (s.1 + 2) (all_of apart)) → RiseFrom start (all_of joined)
@@ -46,10 +43,6 @@ or_swap true false c = refl
 or_swap false true c = refl
 or_swap false false c = refl
 
-or_group : (a b c : Bool) → ((a || b) || c) ≡ (a || (b || c))
-or_group true b c = refl
-or_group false b c = refl
-
 has_by : (r s : ℕ × ℕ) (rest : List (ℕ × ℕ)) (n : ℕ) (apart joined : SomeRanges) (b c : Bool) → ltb (r.1 + 1) s.0 ≡ b → ltb (s.1 + 1) r.0 ≡ c
     → r.0 ≤ r.1 → s.0 ≤ s.1 → has (all_of apart) n ≡ (is_within r n || has rest n) → has (all_of joined) n ≡ (is_within (min r.0 s.0, max r.1 s.1) n || has rest n)
     → has (all_of (cond b (record { first = r; others = s ∷ rest }) (cond c (record { first = s; others = all_of apart }) joined))) n ≡ (is_within r n || (is_within s n || has rest n))
@@ -57,7 +50,7 @@ has_by r s rest n apart joined true c e f proper proper' later near = refl
 has_by r s rest n apart joined false true e f proper proper' later near =
     ap (λ b. is_within s n || b) later ∙ or_swap (is_within s n) (is_within r n) (has rest n)
 has_by r s rest n apart joined false false e f proper proper' later near =
-    near ∙ ap (λ b. b || has rest n) (within_joined r s n proper proper' (ltb-false (r.1 + 1) s.0 e) (ltb-false (s.1 + 1) r.0 f)) ∙ or_group (is_within r n) (is_within s n) (has rest n)
+    near ∙ ap (λ b. b || has rest n) (within_joined r s n proper proper' (ltb-false (r.1 + 1) s.0 e) (ltb-false (s.1 + 1) r.0 f)) ∙ or_assoc (is_within r n) (is_within s n) (has rest n)
 
 has_with : (start : ℕ) (r : ℕ × ℕ) (set : List (ℕ × ℕ)) (n : ℕ) → r.0 ≤ r.1 → RiseFrom start set → has (all_of (with_range r set)) n ≡ (is_within r n || has set n)
 unfolding with_range

@@ -1,6 +1,6 @@
 -- What is written nests little, and has no float.
-use Rattle.std.proofs.Common.{◌≡◌, ℕ, suc, ◌≤◌, List, [], ◌∷◌, Bool, true, false, ◌||◌, Option, Some, None, Ordering, Less, Equal, Greater, refl, arith}
-use Rattle.std.proofs.lemmas.Bool.{or_from}
+use Rattle.std.proofs.Common.{◌≡◌, ℕ, suc, ◌≤◌, List, [], ◌∷◌, Bool, true, false, Option, Some, None, Ordering, Less, Equal, Greater, refl, arith}
+use Rattle.std.proofs.lemmas.Bool.{or_from, or_parts}
 use Rattle.std.specs.Ordering.{nat_cmp, match_ordering}
 use Rattle.std.specs.Cmp.Lexicographic.{slice_cmp}
 use Rattle.serde_json.specs.Data.{Data, array, Items, Members, no_members, member, put, depth, items_depth, members_depth}
@@ -33,10 +33,6 @@ abbrev PartsPlain : ℕ → List Part → Type 0
 PartsPlain n [] = Unit {0}
 PartsPlain n (p ∷ ps) = MayBePlain n p.1 × PartsPlain n ps
 
-no_float_here : (a b : Bool) → (a || b) ≡ false → (a ≡ false) × (b ≡ false)
-no_float_here true b h = cc
-no_float_here false b h = (refl, h)
-
 member_plain : (n : ℕ) (k : List ℕ) (d : Data) (ms : Members) → IsPlain n d → ArePlain n ms → ArePlain n (member k d ms)
 member_plain n k d ms p q = (omega (arith, p.0, q.0), or_from (has_float d) (members_have_float ms) p.1 q.1)
 
@@ -48,7 +44,7 @@ by_order Greater a b c n p q r = r
 put_plain : (n : ℕ) (k : List ℕ) (d : Data) (ms : Members) → IsPlain n d → ArePlain n ms → ArePlain n (put k d ms)
 put_plain n k d no_members p q = member_plain n k d no_members p q
 put_plain n k d (member l e ms) p q =
-    let parts = no_float_here (has_float e) (members_have_float ms) q.1 in
+    let parts = or_parts (has_float e) (members_have_float ms) q.1 in
     let here : IsPlain n e = (omega (arith, q.0), parts.0) in
     let rest : ArePlain n ms = (omega (arith, q.0), parts.1) in
     by_order (slice_cmp nat_cmp k l) (member k d (member l e ms)) (member l d ms) (member l e (put k d ms)) n

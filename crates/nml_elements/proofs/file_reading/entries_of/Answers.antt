@@ -1,8 +1,8 @@
 use Rattle.std.proofs.lemmas.Result.{err_from_is_err_and}
 use Rattle.std.proofs.Common.{arith, ◌+◌}
+use Rattle.ml_base.proofs.Lists.{next_item}
 use Rattle.serde_json.specs.View.{items_view}
 use Rattle.nml_elements.specs.FileReading.{entries_at}
-use Rattle.nml_elements.proofs.IdLoop.{next_item}
 use Rattle.nml_elements.proofs.EntryLoop.{goes_on, ends, is_done}
 use Rattle.nml_elements.proofs.file_reading.entries_of.Goals as goal
 

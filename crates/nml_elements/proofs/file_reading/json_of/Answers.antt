@@ -1,5 +1,6 @@
 use Rattle.std.proofs.Common.{refl, inr}
-use Rattle.nml_elements.proofs.Json.{json_of-text, json_of-none, untrue}
+use Rattle.ml_base.proofs.Comparisons.{untrue}
+use Rattle.nml_elements.proofs.Json.{json_of-text, json_of-none}
 use Rattle.nml_elements.proofs.file_reading.json_of.Goals as goal
 
 pub returns-in-Ok-clause-value : goal.returns-in-Ok-clause-value

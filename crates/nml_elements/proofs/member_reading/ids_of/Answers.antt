@@ -1,7 +1,8 @@
 use Rattle.std.proofs.lemmas.Result.{err_from_is_err_and}
+use Rattle.ml_base.proofs.Lists.{next_item}
 use Rattle.serde_json.specs.View.{items_view}
 use Rattle.nml_elements.specs.MemberReading.{ids_at}
-use Rattle.nml_elements.proofs.IdLoop.{goes_on, ends, is_done, next_item}
+use Rattle.nml_elements.proofs.IdLoop.{goes_on, ends, is_done}
 use Rattle.nml_elements.proofs.member_reading.ids_of.Goals as goal
 
 pub returns-in_err-id : goal.returns-in_err-id
