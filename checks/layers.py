@@ -31,7 +31,7 @@ LAYERS = {
     "meaning": "answer_spec potential_lift finder_core",
     "text": "line_text domain_config answer_text document_bench",
     "judging": "verdict hop_check potential_check cert_check rule_replay",
-    "commands": "command_words replies file_words find_command check_command drill_command survey_command finder_cli run_rows finder",
+    "commands": "command_words replies file_words find_command check_command drill_command survey_command finder_cli run_rows finder use_run use_solve",
 }
 
 # What stands on a later layer, and why.
