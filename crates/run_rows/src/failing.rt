@@ -72,6 +72,9 @@ fn failing_reads(rt: HostRuntime) -> Result<(), Fail> {
     let words = "find a any b any gone.json";
     assert!(rt; ends_so(alloc, words, &mut files, 5, "read 1 absent\n")?);
     assert_eq!(rt; files.faults(), 1);
+    let mut files = Blind::new(stored(alloc)?);
+    let words = "find a any b any one.json gone.json";
+    assert!(rt; ends_so(alloc, words, &mut files, 5, "read 2 absent\n")?);
     Ok(())
 }
 

@@ -12,6 +12,11 @@ fn costs(rt: HostRuntime) -> Result<(), Fail> {
             "circuit 1\nrequest a any b any\noutcome found 1 1\nhop 1 link l a - b - d\ndomain d\nrule 1 carry l a - b -\ntop a - 0 0\ntop b - 1 1\nend\n",
         ),
         (
+            "find a any b any named-twice.json",
+            0,
+            "circuit 1\nrequest a any b any\noutcome found 1 1\nhop 1 link l a - b - d\ndomain d\nrule 1 carry l a - b -\ntop a - 0 0\ntop b - 1 1\nend\n",
+        ),
+        (
             "route a any b any one.json",
             0,
             "circuit 1\nrequest a any b any\noutcome found 1 1\nhop 1 link l a - b - d\ndomain d\nrule 1 carry l a - b -\nend\n",

@@ -51,6 +51,10 @@ const BETA: &str =
 const GAMMA: &str =
     "{\"elements\":[{\"hasLabelGroup\":{\"labeltype\":\"vlan\",\"values\":\"2-4094\"},\"id\":\"c-in\",\"isAlias\":[\"b-f\"],\"type\":\"PortGroup\"},{\"hasLabelGroup\":{\"labeltype\":\"vlan\",\"values\":\"2-4094\"},\"id\":\"c-m\",\"isSource\":[\"c-l1\"],\"type\":\"PortGroup\"},{\"hasLabelGroup\":{\"labeltype\":\"vlan\",\"values\":\"2-4094\"},\"id\":\"c-n\",\"isSink\":[\"c-l1\"],\"type\":\"PortGroup\"},{\"hasLabelGroup\":{\"labeltype\":\"vlan\",\"values\":\"2-4094\"},\"id\":\"c-out\",\"isSource\":[\"c-l2\"],\"type\":\"PortGroup\"},{\"hasLabelGroup\":{\"labeltype\":\"vlan\",\"values\":\"2-4094\"},\"id\":\"c-host\",\"isSink\":[\"c-l2\"],\"type\":\"PortGroup\"},{\"hasInboundPort\":[\"c-in\"],\"hasOutboundPort\":[\"c-m\"],\"id\":\"c-sw1\",\"type\":\"SwitchingService\"},{\"hasInboundPort\":[\"c-n\"],\"hasOutboundPort\":[\"c-out\"],\"id\":\"c-sw2\",\"type\":\"SwitchingService\"},{\"id\":\"c-l1\",\"type\":\"LinkGroup\"},{\"id\":\"c-l2\",\"type\":\"LinkGroup\"}],\"encoding\":\"eth\",\"format\":1,\"topology\":\"gamma\"}";
 
+// Names that stand twice, of which the last counts.
+const NAMED_TWICE: &str =
+    "{\"elements\":[],\"elements\":[{\"id\":\"a\",\"isSource\":[\"m\"],\"isSource\":[\"l\"],\"type\":\"Port\"},{\"id\":\"b\",\"isSink\":[\"l\"],\"type\":\"Port\"},{\"cost\":7,\"cost\":1,\"id\":\"l\",\"type\":\"Link\"}],\"format\":2,\"format\":1,\"topology\":\"x\",\"topology\":\"d\"}";
+
 const EMPTY: &str = "{\"elements\":[],\"format\":1,\"topology\":\"d\"}";
 
 const FURTHER: &str =
@@ -78,6 +82,7 @@ pub fn put_sound(files: &mut MemFiles) -> Result<(), NoMemory> {
         ("alpha.json", ALPHA),
         ("beta.json", BETA),
         ("gamma.json", GAMMA),
+        ("named-twice.json", NAMED_TWICE),
         ("empty.json", EMPTY),
         ("further.json", FURTHER),
         ("wide.json", WIDE),
