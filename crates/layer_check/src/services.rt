@@ -9,7 +9,7 @@ use crate::making::FaultKind;
 use crate::related::{Related, check_related};
 use crate::repeats::{is_repeat, service_of};
 use circuit_spec::LayerFault;
-use nml_elements::SwitchE;
+use nml_elements::{Element, SwitchE};
 use nml_inventory::Inventory;
 
 /// Whether the ports of a switching service fit it and one another, or what is wrong with them.
@@ -49,7 +49,7 @@ fn check_service_at(inventory: &Inventory, number: u64) -> Result<(), LayerFault
     }
 }
 
-/// The same where all elements before it fit. A service like an earlier one fits as that does.
+/// The same of the next element, where all before it fit. A service like an earlier one fits as that does, and is passed over.
 fn check_next_service(inventory: &Inventory, number: u64) -> Result<(), LayerFault>
     requires within { number < length (elements_of inventory.now) }
     requires before { flat_map (switch_faults_of inventory.now) (take number (elements_of inventory.now)) ≡ [] }

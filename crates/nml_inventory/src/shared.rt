@@ -12,7 +12,7 @@ use std::marker::Model;
 pub struct Shared {
     lists: Relation,
     rows: Vec<usize>,
-    /// For each list the first element that it is of, where the lists are in the order of these.
+    /// For each list the first element that it is of, where the lists are in the order of these. It serves speed alone: who reads compares.
     firsts: Vec<usize>,
 }
 
