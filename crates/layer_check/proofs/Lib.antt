@@ -8,3 +8,4 @@ pub mod Differing
 pub mod OfElements
 pub mod Searching
 pub mod FirstFaults
+pub mod Repeating

@@ -1,5 +1,5 @@
 -- The faults of the element of a number.
-use Rattle.std.specs.Prelude.{ℕ, List, [], Option, None, Some, slice_get}
+use Rattle.std.specs.Prelude.{◌≡◌, ◌<◌, ℕ, List, [], Option, None, Some, slice_get}
 use Rattle.circuit_spec.specs.declared.faults.LayerFault.{LayerFault}
 use Rattle.circuit_spec.specs.Kept.{link_at}
 use Rattle.circuit_spec.specs.Network.{Topology, Placed, elements_of}
@@ -22,3 +22,7 @@ link_faults_at T number = of_option (link_faults_of T) (slice_get (elements_of T
 
 abbrev pub switch_faults_at : Topology → ℕ → List LayerFault
 switch_faults_at T number = of_option (switch_faults_of T) (slice_get (elements_of T) number)
+
+-- the service of the number fits where an earlier one does
+abbrev pub IsRepeat : Topology → ℕ → Type 0
+IsRepeat T number = (other : ℕ) × (other < number) × (switch_faults_at T other ≡ [] → switch_faults_at T number ≡ [])

@@ -49,7 +49,8 @@ pub fn type_at(inventory: &Inventory, port: PortNo) -> Option<&Id>
     }
 }
 
-fn same_type(one: Option<&Id>, other: Option<&Id>) -> bool
+/// Whether both are the same, or neither is there.
+pub fn same_type(one: Option<&Id>, other: Option<&Id>) -> bool
     ensures { result ≡ same_type (option_copied one.entry) (option_copied other.entry) }
 {
     match (one, other) {

@@ -9,6 +9,7 @@ mod making;
 mod members;
 mod numbers;
 mod related;
+mod repeats;
 mod services;
 
 pub use checking::check;

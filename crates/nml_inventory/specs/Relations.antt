@@ -2,10 +2,11 @@
 --   numbers_where      the numbers of the items that pass a test, rising
 --   is_source ..       whether a port is related so to an element
 --   AreNumbersOf       the ports that are related so to the element of a number
+--   IsTwin             an earlier element has the same inbound and outbound ports
 --   AreClassLabels     the labels that all ports of a class have
 --   open_references    how many ids the relations name that no element has
 --   IsClassCount       how many classes there are
-use Rattle.std.specs.Prelude.{◌≡◌, ◌⊎◌, ◌↔◌, ℕ, suc, List, [], ◌∷◌, ◌++◌, Bool, false, IsTrue, cond, Some, is_none, unwrap_or, map, filter, length, slice_get, option_map, sum_by}
+use Rattle.std.specs.Prelude.{◌≡◌, ◌⊎◌, ◌↔◌, ◌<◌, ℕ, suc, List, [], ◌∷◌, ◌++◌, Bool, false, IsTrue, cond, Some, is_none, unwrap_or, map, filter, length, slice_get, option_map, sum_by}
 use Rattle.std.specs.List.{enumerate_from}
 use Rattle.nml_elements.specs.declared.elements.Labels.{Labels}
 use Rattle.nml_elements.specs.declared.elements.Element.{Element}
@@ -83,6 +84,16 @@ is_client (element.Conversion c) p = false
 abbrev pub AreNumbersOf : Topology → (Element → Port → Bool) → ℕ → List ℕ → Type 0
 AreNumbersOf T test number found =
     option_map (λ (e : Placed). numbers_where (test e.element) (ports T)) (slice_get (elements_of T) number) ≡ Some found
+
+-- the other element stands before that of the number, and has the same inbound and outbound ports
+pub record IsTwin (T : Topology) (number other : ℕ) : Type 0 where
+  pub inbound : List ℕ
+  pub outbound : List ℕ
+  pub before : other < number
+  pub inbound_here : AreNumbersOf T (is_inbound T) number inbound
+  pub inbound_there : AreNumbersOf T (is_inbound T) other inbound
+  pub outbound_here : AreNumbersOf T (is_outbound T) number outbound
+  pub outbound_there : AreNumbersOf T (is_outbound T) other outbound
 
 -- the labels are of the type of the class, and are those that each of its ports has
 pub record AreClassLabels (T : Topology) (class : Port) (labels : Labels) : Type 0 where

@@ -1,7 +1,8 @@
-ghost use Rattle.std.specs.Prelude.{◌≡◌, ◌<◌, ◌^◌, ◌++◌, All, IfOk, OnOk, length, map};
+ghost use Rattle.std.specs.Prelude.{◌≡◌, ◌<◌, ◌^◌, ◌++◌, All, IfOk, IsTrue, OnOk, length, map};
 ghost use Rattle.ml_base.specs.declared.numbers.PortNo.{PortNo as PortNumber};
 ghost use Rattle.circuit_spec.specs.Network.{elements_of, ports};
 ghost use Rattle.nml_inventory.specs.Loans.{AreLoans, LendWithin, lent_arcs, lent_by, shared};
+ghost use Rattle.nml_inventory.specs.declared.lent.Holding.TheVariants.{Lent};
 ghost use Rattle.nml_inventory.specs.Tables.{held_by, IsTable, lent_of, lent_over, takes_number};
 
 use crate::loans::{Loan, Loans};
@@ -139,5 +140,16 @@ pub fn held_by(element: &Element) -> Holding
         Element::Link(_) => Holding::Neither,
         Element::Adaptation(_) => Holding::Neither,
         Element::Deadaptation(_) => Holding::Neither,
+    }
+}
+
+/// Whether an element has its ports of Nodes.
+pub fn is_lent(element: &Element) -> bool
+    ensures { IsTrue result → held_by element.now ≡ Lent }
+{
+    match held_by(element) {
+        Holding::Lent => true,
+        Holding::Own => false,
+        Holding::Neither => false,
     }
 }
