@@ -6,6 +6,7 @@ use Rattle.std.specs.List.{cons_option, find}
 use Rattle.std.specs.Str.{bytes_eq}
 use Rattle.std.proofs.lemmas.Option.{slice_get_within}
 use Rattle.ml_base.specs.declared.numbers.PortNo.{PortNo}
+use Rattle.ml_base.proofs.Lists.{one_of_some}
 use Rattle.circuit_spec.specs.declared.faults.LayerFault.{LayerFault}
 use Rattle.circuit_spec.specs.Network.{Name, Topology, Port, ports}
 use Rattle.circuit_spec.specs.Faults.{first_other, has_other, layer_faults, same_type, type_of, IsFirstOf}
@@ -15,7 +16,6 @@ use Rattle.layer_check.specs.Places.{first_place, number_of}
 use Rattle.layer_check.specs.Related.{related_faults}
 use Rattle.layer_check.proofs.Answering.{unless}
 use Rattle.layer_check.proofs.FirstPlaces.{find_kept, place_finds}
-use Rattle.layer_check.proofs.Once.{one_of_some}
 
 none_by : {A : Type 0} (b : Bool) (x : A) (kept : List A) (p : Option ℕ) → (p ≡ None → kept ≡ []) → cond b (Some 0) (option_map (λ k. k + 1) p) ≡ None → cond b (x ∷ kept) kept ≡ []
 none_by true x kept p later e = cc

@@ -3,6 +3,7 @@ use Rattle.std.proofs.Common.{◌≡◌, ℕ, zero, suc, ◌+◌, ◌<◌, List,
 use Rattle.std.specs.Prelude.{◌&&◌, ◌||◌, All, slice_get, option_map}
 use Rattle.std.specs.Option.{option_and_then}
 use Rattle.std.specs.List.{AllByRecursion, enumerate_from, find}
+use Rattle.std.proofs.Math.Bool.{and-true}
 use Rattle.ml_base.specs.declared.numbers.PortNo.{PortNo}
 use Rattle.circuit_spec.specs.Network.{Topology, Port, ports}
 use Rattle.nml_inventory.specs.Relations.{numbers_where}
@@ -112,16 +113,12 @@ first_that T t u numbers are =
     find_numbers (passes_at T u) numbers ∙ ap (find (passes_at T u)) are
     ∙ find_where (passes_at T u) t u (ports T) (λ k x at. passes_there T u k x at)
 
-and_true : (b : Bool) → (b && true) ≡ b
-and_true true = refl
-and_true false = refl
-
 -- the first of the ports of a list
 pub first_listed : (T : Topology) (t : Port → Bool) (numbers : List PortNo) → ArePortsThat T t numbers → number_of (find (λ (n : PortNo). true) numbers) ≡ first_place t (ports T)
 first_listed T t numbers are =
     find_numbers (λ n. true) numbers ∙ ap (find (λ n. true)) are
     ∙ find_where (λ n. true) t (λ q. true) (ports T) (λ k x at. refl)
-    ∙ place_same (λ q. t q && true) t (λ q. and_true (t q)) (ports T)
+    ∙ place_same (λ q. t q && true) t (λ q. and-true (t q)) (ports T)
 
 -- Both lists
 

@@ -2,9 +2,11 @@
 use Rattle.std.proofs.Common.{◌≡◌, ◌≢◌, ℕ, zero, suc, ◌+◌, ◌<◌, ◌≤◌, ◌⊎◌, inl, inr, List, [], ◌∷◌, Bool, true, false, Option, None, Some, length, refl, sym, ◌∙◌, ap, subst, arith, min}
 use Rattle.std.specs.Prelude.{slice_get, option_map}
 use Rattle.std.specs.List.{AllByRecursion}
-use Rattle.std.proofs.lemmas.Bool.{both_ways, eqb-true, eq-eqb, or_left, or_right, or_cases}
+use Rattle.std.proofs.lemmas.Bool.{both_ways, eqb-true, eq-eqb, or_left, or_right, or_cases, or_parts}
 use Rattle.std.proofs.lemmas.Option.{slice_get_within}
 use Rattle.ml_base.specs.declared.numbers.PortNo.{PortNo}
+use Rattle.ml_base.proofs.Lists.{one_of_some, all_from_places}
+use Rattle.ml_base.proofs.Comparisons.{below_cases}
 use Rattle.circuit_spec.specs.declared.faults.LayerFault.{LayerFault}
 use Rattle.circuit_spec.specs.declared.faults.LayerFault.TheVariants.{AliasEncoding, AliasLabelType, LinkLayer, LinkLabelType, SwitchLayer, SwitchLabelType, NoMemory}
 use Rattle.circuit_spec.specs.Network.{Name, Topology, Port, IsClass, Linked, ports}
@@ -18,8 +20,8 @@ use Rattle.layer_check.specs.Classes.{is_other, IsFit, IsUnfit, IsUnfitClass, Is
 use Rattle.layer_check.specs.Places.{lesser_of, number_of}
 use Rattle.layer_check.specs.Found.{UnlessNoMemory, IsClassFault, IsAliasFault, IsNamed}
 use Rattle.layer_check.proofs.Answering.{unless, unless_map}
-use Rattle.layer_check.proofs.Once.{one_of_some, class_once, class_leads, linked_member, member_linked, first_stands}
-use Rattle.layer_check.proofs.Tests.{both_false, differing_encodings, differing_types, encoding_other, encoding_same, type_fits, type_other, is_false, passes_there}
+use Rattle.layer_check.proofs.Once.{class_once, class_leads, linked_member, member_linked, first_stands}
+use Rattle.layer_check.proofs.Tests.{differing_encodings, differing_types, encoding_other, encoding_same, type_fits, type_other, is_false, passes_there}
 
 -- a port that fits its class fits each
 fit_unfit : (T : Topology) (n c : ℕ) → merge_faults T ≡ [] → IsFit T n → IsUnfit T n c → ⊥
@@ -32,21 +34,18 @@ fit_unfit T n c merged fit unfit =
 unfit_once : (T : Topology) (n c d : ℕ) → merge_faults T ≡ [] → IsUnfit T n c → IsUnfit T n d → c ≡ d
 unfit_once T n c d merged x y = class_once T n c d merged x.member y.member
 
-below_or_at : (n k : ℕ) → n < k + 1 → (n < k) ⊎ (n ≡ k)
-below_or_at n k h = grind arith
-
 number_is : (new : PortNo) (m : ℕ) → number_of (Some new) ≡ Some m → new.0 ≡ m
 number_is new m e = one_of_some e
 
 -- one more port
 least_from : (T : Topology) (k : ℕ) (old here new : Option PortNo) → merge_faults T ≡ [] → IsLeastUnfit T k old → IsUnfitClass T k here → number_of new ≡ lesser_of (number_of old) (number_of here) → IsLeastUnfit T (k + 1) new
-least_from T k None None None merged before fit e = λ n below. elim (below_or_at n k below) [ inl less ↦ before n less | inr same ↦ subst (λ (m : ℕ). IsFit T m) (sym same) fit ]
+least_from T k None None None merged before fit e = λ n below. elim (below_cases n k below) [ inl less ↦ before n less | inr same ↦ subst (λ (m : ℕ). IsFit T m) (sym same) fit ]
 least_from T k None None (Some c) merged before fit e = cc
 least_from T k None (Some h) None merged before unfit e = cc
 least_from T k None (Some h) (Some c) merged before unfit e =
     let same : c.0 ≡ h.0 = one_of_some e in (
       (k, subst (λ (m : ℕ). IsUnfit T k m) (sym same) unfit),
-      λ n below d other. elim (below_or_at n k below) [
+      λ n below d other. elim (below_cases n k below) [
         | inl less ↦ absurd (fit_unfit T n d merged (before n less) other)
         | inr at ↦ let one : h.0 ≡ d = unfit_once T k h.0 d merged unfit (subst (λ (m : ℕ). IsUnfit T m d) at other) in omega arith
       ],
@@ -55,7 +54,7 @@ least_from T k (Some o) None None merged before fit e = cc
 least_from T k (Some o) None (Some c) merged before fit e =
     let same : c.0 ≡ o.0 = one_of_some e in (
       (before.0.0, subst (λ (m : ℕ). IsUnfit T before.0.0 m) (sym same) before.0.1),
-      λ n below d other. elim (below_or_at n k below) [
+      λ n below d other. elim (below_cases n k below) [
         | inl less ↦ let l = before.1 n less d other in omega arith
         | inr at ↦ absurd (fit_unfit T k d merged fit (subst (λ (m : ℕ). IsUnfit T m d) at other))
       ],
@@ -68,7 +67,7 @@ least_from T k (Some o) (Some h) (Some c) merged before unfit e =
         | inl x ↦ (before.0.0, subst (λ (m : ℕ). IsUnfit T before.0.0 m) (sym x) before.0.1)
         | inr x ↦ (k, subst (λ (m : ℕ). IsUnfit T k m) (sym x) unfit)
       ],
-      λ n below d other. elim (below_or_at n k below) [
+      λ n below d other. elim (below_cases n k below) [
         | inl less ↦ let l = before.1 n less d other in omega arith
         | inr at ↦ let one : h.0 ≡ d = unfit_once T k h.0 d merged unfit (subst (λ (m : ℕ). IsUnfit T m d) at other) in omega arith
       ],
@@ -79,14 +78,10 @@ least_more T k old here new merged before at e = least_from T k old here new mer
 
 -- Whole classes
 
-all_at : {A : Type 0} (P : A → Type 0) (xs : List A) → ((k : ℕ) (x : A) → slice_get xs k ≡ Some x → P x) → AllByRecursion P xs
-all_at P [] h = tt
-all_at P (x ∷ xs) h = (h 0 x refl, all_at P xs (λ k y at. h (suc k) y at))
-
 fits_first : (T : Topology) (n : ℕ) (p : Port) (fit : IsFit T n) → slice_get (ports T) n ≡ Some p → (p.encoding ≡ fit.member.first.encoding) × (type_of p ≡ type_of fit.member.first)
 fits_first T n p fit at =
     let same : fit.member.port ≡ p = one_of_some (sym fit.member.is_port ∙ at) in
-    let parts = both_false (other_encoding fit.member.first fit.member.port) (other_type fit.member.first fit.member.port) fit.fits in (
+    let parts = or_parts (other_encoding fit.member.first fit.member.port) (other_type fit.member.first fit.member.port) fit.fits in (
       ap (λ (x : Port). x.encoding) (sym same) ∙ encoding_same fit.member.first fit.member.port parts.0,
       ap type_of (sym same) ∙ type_fits fit.member.first fit.member.port parts.1,
     )
@@ -102,7 +97,7 @@ linked_first T i j p q x y merged at_i at_j linked =
 
 pub classes_fit : (T : Topology) → merge_faults T ≡ [] → ((n : ℕ) → n < length (ports T) → IsFit T n) → ClassesFit T
 classes_fit T merged fit =
-    all_at _ (ports T) (λ i p at_i. all_at _ (ports T) (λ j q at_j linked.
+    all_from_places _ (ports T) (λ i p at_i. all_from_places _ (ports T) (λ j q at_j linked.
     let x = fit i (slice_get_within (ports T) i p at_i) in
     let y = fit j (slice_get_within (ports T) j q at_j) in
     let same = linked_first T i j p q x y merged at_i at_j linked in
@@ -207,7 +202,7 @@ encoding_fault T class k first a b f leads at_first found named_a named_b names 
 none_differs : (T : Topology) (class : ℕ) (p : Port) → IsClassNumber T class class → slice_get (ports T) class ≡ Some p → IsFirstMember T (other_encoding p) class None → AllByRecursion (λ q. Linked T p.id q.id → q.encoding ≡ p.encoding) (ports T)
 none_differs T class p leads at none =
     let lead : leads.first ≡ p = one_of_some (sym leads.is_first ∙ at) in
-    all_at _ (ports T) (λ j q there linked.
+    all_from_places _ (ports T) (λ j q there linked.
     let l : Linked T leads.first.id q.id = subst (λ (x : Port). Linked T x.id q.id) (sym lead) linked in
     let w = linked_member T j class q leads there l in
     encoding_same p q (is_false (other_encoding p q) (λ h. none j (record { member = w; passes = ap (other_encoding p) (one_of_some (sym w.is_port ∙ there)) ∙ h }))))
@@ -254,7 +249,7 @@ no_member T test n found wanted r merged m is other = (
 
 -- one more port that is no such member
 pub none_more : (T : Topology) (test : Port → Bool) (class k : ℕ) (r : Bool) → ((n : ℕ) → n < k → ¬ IsMemberThat T test class n) → (IsMemberThat T test class k → r ≡ true) → r ≡ false → (n : ℕ) → n < k + 1 → ¬ IsMemberThat T test class n
-none_more T test class k r before is other n below m = elim (below_or_at n k below) [
+none_more T test class k r before is other n below m = elim (below_cases n k below) [
   | inl less ↦ before n less m
   | inr at ↦ both_ways r other (is (subst (λ (x : ℕ). IsMemberThat T test class x) at m))
 ]

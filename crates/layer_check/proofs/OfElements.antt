@@ -1,10 +1,11 @@
 -- The faults of all elements, one by one.
-use Rattle.std.proofs.Common.{◌≡◌, ℕ, zero, suc, ◌+◌, ◌<◌, ◌≤◌, List, [], ◌∷◌, ◌++◌, Bool, Option, None, Some, map, filter, take, drop, length, refl, sym, ◌∙◌, ap, subst, arith}
+use Rattle.std.proofs.Common.{◌≡◌, ℕ, ◌+◌, ◌<◌, ◌≤◌, List, [], ◌∷◌, ◌++◌, Bool, Option, None, Some, map, filter, take, drop, length, refl, sym, ◌∙◌, ap, subst}
 use Rattle.std.specs.Prelude.{◌||◌, slice_get, option_map}
 use Rattle.std.specs.List.{cons_option, filter_map, flat_map}
 use Rattle.std.proofs.lemmas.List.{take_all, take-append-drop, drop_more}
 use Rattle.std.proofs.lemmas.Option.{get_or_from_slice_get, slice_get_within}
 use Rattle.ml_base.specs.declared.numbers.PortNo.{PortNo}
+use Rattle.ml_base.proofs.Lists.{one_of_some, some_at}
 use Rattle.nml_elements.specs.declared.elements.LinkE.{LinkE}
 use Rattle.nml_elements.specs.declared.elements.SwitchE.{SwitchE}
 use Rattle.nml_elements.specs.declared.elements.Element.{Element}
@@ -21,12 +22,6 @@ use Rattle.layer_check.specs.Elements.{of_option}
 use Rattle.layer_check.specs.Found.{IsFaultIn}
 use Rattle.layer_check.specs.Related.{AreTogether}
 use Rattle.layer_check.proofs.Answering.{unless_map}
-use Rattle.layer_check.proofs.Once.{one_of_some}
-
-some_at : {A : Type 0} (xs : List A) (n : ℕ) → n < length xs → (x : A) × (slice_get xs n ≡ Some x)
-some_at [] n h = absurd (omega arith)
-some_at (x ∷ xs) zero h = (x, refl)
-some_at (x ∷ xs) (suc n) h = some_at xs n (omega (arith, h))
 
 flat_by : {A : Type 0} (f : A → List LayerFault) (o : Option A) (ys : List A) (rest : List LayerFault) → flat_map f ys ≡ rest → flat_map f (cons_option o ys) ≡ of_option f o ++ rest
 flat_by f None ys rest e = e

@@ -1,21 +1,16 @@
 -- A port has one class number, and its id one element.
-use Rattle.std.proofs.Common.{◌≡◌, ℕ, suc, inl, inr, List, [], ◌∷◌, ◌++◌, Some, sym, ◌∙◌, ap, subst}
+use Rattle.std.proofs.Common.{◌≡◌, ℕ, suc, inl, inr, List, [], ◌∷◌, Some, sym, ◌∙◌, ap, subst}
 use Rattle.std.specs.Prelude.{slice_get}
+use Rattle.ml_base.proofs.Lists.{one_of_some}
 use Rattle.circuit_spec.specs.Network.{Topology, Port, First, IsClass, Linked, ports}
-use Rattle.circuit_spec.specs.Faults.{duplicate_ids, duplicate_topologies, merge_faults, wrong_kinds}
-use Rattle.circuit_spec.proofs.Lists.{both_empty}
+use Rattle.circuit_spec.specs.Faults.{merge_faults}
 use Rattle.circuit_spec.proofs.ClassLemmas.{First-unique, linked_back, class_of_itself, class_of_linked}
 use Rattle.circuit_spec.proofs.Among.{among_first}
+use Rattle.circuit_spec.proofs.Merged.{ids_once}
 use Rattle.nml_inventory.specs.Aliases.{IsClassNumber}
 use Rattle.nml_inventory.proofs.Distinct.{same_place}
 use Rattle.nml_inventory.proofs.ClassNumbers.{port_id}
 use Rattle.nml_inventory.proofs.PortNumbers.{distinct_ports}
-
-pub one_of_some : {A : Type 0} {x y : A} → Some x ≡ Some y → x ≡ y
-one_of_some e = cc
-
-pub ids_once : (T : Topology) → merge_faults T ≡ [] → duplicate_ids T ≡ []
-ids_once T merged = (both_empty (duplicate_topologies T) (duplicate_ids T) (both_empty (duplicate_topologies T ++ duplicate_ids T) (wrong_kinds T) merged).0).1
 
 -- the first port of a class number is linked to the port
 pub member_linked : (T : Topology) (n c : ℕ) (m : IsClassNumber T n c) → Linked T m.first.id m.port.id

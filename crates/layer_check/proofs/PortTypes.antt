@@ -1,45 +1,18 @@
 -- The element of a port's id.
-use Rattle.std.proofs.Common.{◌≡◌, ℕ, zero, suc, List, [], ◌∷◌, Option, None, Some, map, refl, sym, ◌∙◌, ap, subst}
+use Rattle.std.proofs.Common.{◌≡◌, ℕ, List, [], Option, None, Some, refl, sym, ◌∙◌, ap, subst}
 use Rattle.std.specs.Prelude.{slice_get, option_map}
-use Rattle.std.specs.Option.{option_and_then}
-use Rattle.std.specs.List.{find, filter_map, cons_option}
-use Rattle.std.specs.Str.{bytes_eq}
-use Rattle.std.proofs.lemmas.Bool.{both_ways}
-use Rattle.std.proofs.lemmas.Slice.Eq.{bytes_eq-Decides}
+use Rattle.ml_base.proofs.Lists.{one_of_some, no_item, kept_from}
 use Rattle.nml_elements.specs.declared.elements.Domain.{Domain}
 use Rattle.nml_elements.specs.declared.elements.Element.{Element}
 use Rattle.nml_elements.specs.declared.elements.Element.TheVariants as element
 use Rattle.circuit_spec.specs.Network.{Name, Topology, Placed, Port, elements_of, ports, port_at, id_of}
 use Rattle.circuit_spec.specs.Faults.{Located, located, duplicate_ids, merge_faults, repeats_after, type_of}
-use Rattle.circuit_spec.proofs.Lists.{none_found}
-use Rattle.nml_inventory.specs.Numbers.{number_in, element_number}
-use Rattle.nml_inventory.proofs.Names.{find_number}
+use Rattle.circuit_spec.proofs.Merged.{ids_once}
+use Rattle.nml_inventory.specs.Numbers.{element_number}
 use Rattle.nml_inventory.proofs.Stands.{ids_are}
-use Rattle.nml_inventory.proofs.Distinct.{AreApart, AreDistinct, distinct_from, same_place}
-use Rattle.nml_inventory.proofs.ClassNumbers.{among_place}
-use Rattle.nml_inventory.proofs.PortNumbers.{number_found}
+use Rattle.nml_inventory.proofs.Distinct.{AreDistinct, distinct_from}
+use Rattle.nml_inventory.proofs.PortNumbers.{distinct_mapped, mapped_distinct, number_by}
 use Rattle.layer_check.specs.Comparing.{element_type}
-use Rattle.layer_check.proofs.Once.{ids_once, one_of_some}
-
-no_item : {A B : Type 0} (f : A → B) (xs : List A) → map f xs ≡ [] → xs ≡ []
-no_item f [] e = refl
-no_item f (x ∷ xs) e = cc
-
-apart_mapped : {A : Type 0} (key : A → Name) (id : Name) (xs : List A) → AreApart key id xs → AreApart (λ (x : Name). x) id (map key xs)
-apart_mapped key id [] a = tt
-apart_mapped key id (x ∷ xs) a = (a.0, apart_mapped key id xs a.1)
-
-distinct_mapped : {A : Type 0} (key : A → Name) (xs : List A) → AreDistinct key xs → AreDistinct (λ (x : Name). x) (map key xs)
-distinct_mapped key [] d = tt
-distinct_mapped key (x ∷ xs) d = (apart_mapped key (key x) xs d.0, distinct_mapped key xs d.1)
-
-mapped_apart : {A : Type 0} (key : A → Name) (id : Name) (xs : List A) → AreApart (λ (x : Name). x) id (map key xs) → AreApart key id xs
-mapped_apart key id [] a = tt
-mapped_apart key id (x ∷ xs) a = (a.0, mapped_apart key id xs a.1)
-
-mapped_distinct : {A : Type 0} (key : A → Name) (xs : List A) → AreDistinct (λ (x : Name). x) (map key xs) → AreDistinct key xs
-mapped_distinct key [] d = tt
-mapped_distinct key (x ∷ xs) d = (mapped_apart key (key x) xs d.0, mapped_distinct key xs d.1)
 
 abbrev pub placed_id : Placed → Name
 placed_id p = id_of p.element
@@ -53,16 +26,6 @@ distinct_elements T none =
 
 abbrev port_in : Placed → Option Port
 port_in p = port_at p.domain p.element
-
-kept_option : {A B : Type 0} (h : A → Option B) (x : A) (xs : List A) (o : Option B) (n : ℕ) (y : B) → h x ≡ o → ((m : ℕ) → slice_get (filter_map h xs) m ≡ Some y → (k : ℕ) × (z : A) × (slice_get xs k ≡ Some z) × (h z ≡ Some y)) → slice_get (cons_option o (filter_map h xs)) n ≡ Some y → (k : ℕ) × (z : A) × (slice_get (x ∷ xs) k ≡ Some z) × (h z ≡ Some y)
-kept_option h x xs None n y e later at = let l = later n at in (suc l.0, l.1, l.2, l.3)
-kept_option h x xs (Some w) zero y e later at = (0, x, refl, e ∙ at)
-kept_option h x xs (Some w) (suc n) y e later at = let l = later n at in (suc l.0, l.1, l.2, l.3)
-
--- what was kept of a list stands somewhere in it
-kept_from : {A B : Type 0} (h : A → Option B) (xs : List A) (n : ℕ) (y : B) → slice_get (filter_map h xs) n ≡ Some y → (k : ℕ) × (z : A) × (slice_get xs k ≡ Some z) × (h z ≡ Some y)
-kept_from h [] n y at = cc
-kept_from h (x ∷ xs) n y at = kept_option h x xs (h x) n y refl (λ m. kept_from h xs m y) at
 
 same_id : (d : Domain) (e : Element) (y : Port) → port_at d e ≡ Some y → y.id ≡ id_of e
 same_id d (element.Port x) y h = ap (λ (p : Port). p.id) (one_of_some (sym h))
@@ -82,14 +45,6 @@ type_kept d (element.Switching x) y h = cc
 type_kept d (element.Adaptation x) y h = cc
 type_kept d (element.Deadaptation x) y h = cc
 type_kept d (element.Conversion x) y h = cc
-
-number_by : {A : Type 0} (key : A → Name) (xs : List A) (i : ℕ) (x : A) → AreDistinct key xs → slice_get xs i ≡ Some x → (o : Option ℕ) → number_in (map key xs) (key x) ≡ o → o ≡ Some i
-number_by key xs i x d at None e =
-    let none : find (λ y. bytes_eq (key y) (key x)) xs ≡ None = find_number key xs (key x) ∙ ap (option_and_then (λ n. slice_get xs n)) e in
-    absurd (both_ways (bytes_eq (key x) (key x)) (none_found (λ y. bytes_eq (key y) (key x)) xs x none (among_place xs i x at)) ((bytes_eq-Decides (key x) (key x)).1 refl))
-number_by key xs i x d at (Some n) e =
-    let f = number_found key xs n (key x) e in
-    ap Some (same_place key xs n i f.0 x d f.1 at f.2)
 
 -- the element of the id of the port of a number
 pub record IsKnownPort (T : Topology) (n : ℕ) (name : Name) : Type 0 where

@@ -1,18 +1,13 @@
 -- What tests of encodings and label types mean.
 use Rattle.std.proofs.Common.{◌≡◌, ◌≢◌, ℕ, Bool, true, false, Option, None, Some, refl, ◌∙◌, ap}
-use Rattle.std.specs.Prelude.{◌||◌, slice_get, option_map, unwrap_or}
+use Rattle.std.specs.Prelude.{slice_get, option_map, unwrap_or}
 use Rattle.std.specs.Str.{bytes_eq}
 use Rattle.std.proofs.lemmas.Bool.{both_ways, not-true, not-false}
 use Rattle.std.proofs.lemmas.Slice.Eq.{bytes_eq-Decides}
 use Rattle.circuit_spec.specs.Network.{Name, Topology, Port, ports}
 use Rattle.circuit_spec.specs.Faults.{same_type, type_of}
+use Rattle.circuit_spec.proofs.Types.{same_type_true}
 use Rattle.layer_check.specs.Comparing.{passes_at, other_encoding, other_type}
-
-pub type_same : (x y : Option Name) → same_type x y ≡ true → x ≡ y
-type_same None None h = refl
-type_same None (Some y) h = cc
-type_same (Some x) None h = cc
-type_same (Some x) (Some y) h = ap Some ((bytes_eq-Decides x y).0 h)
 
 pub same_type-itself : (x : Option Name) → same_type x x ≡ true
 same_type-itself None = refl
@@ -29,7 +24,7 @@ type_other p q h e =
     both_ways (same_type (type_of q) (type_of p)) (not-true (same_type (type_of q) (type_of p)) h) (ap (λ t. same_type t (type_of p)) e ∙ same_type-itself (type_of p))
 
 pub type_fits : (p q : Port) → other_type p q ≡ false → type_of q ≡ type_of p
-type_fits p q h = type_same (type_of q) (type_of p) (not-false (same_type (type_of q) (type_of p)) h)
+type_fits p q h = same_type_true (type_of q) (type_of p) (not-false (same_type (type_of q) (type_of p)) h)
 
 -- a test that is not false is true
 pub is_true : (b : Bool) → (b ≢ false) → b ≡ true
@@ -45,10 +40,6 @@ differing_encodings p q h = is_true (other_encoding p q) (λ e. h (encoding_same
 
 pub differing_types : (p q : Port) → type_of q ≢ type_of p → other_type p q ≡ true
 differing_types p q h = is_true (other_type p q) (λ e. h (type_fits p q e))
-
-pub both_false : (a b : Bool) → (a || b) ≡ false → (a ≡ false) × (b ≡ false)
-both_false true b h = cc
-both_false false b h = (refl, h)
 
 -- a test at the number of a port
 pub passes_there : (T : Topology) (test : Port → Bool) (n : ℕ) (p : Port) → slice_get (ports T) n ≡ Some p → passes_at T test n ≡ test p

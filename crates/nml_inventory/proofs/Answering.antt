@@ -4,7 +4,7 @@ use Rattle.std.specs.Prelude.{slice_get, is_none}
 use Rattle.std.proofs.lemmas.List.{length-map}
 use Rattle.nml_elements.specs.declared.elements.Element.{Element}
 use Rattle.nml_elements.specs.declared.elements.Element.TheVariants as element
-use Rattle.circuit_spec.specs.Faults.{duplicate_ids, duplicate_topologies, is_link, is_adapting, merge_faults, wrong_kinds}
+use Rattle.circuit_spec.specs.Faults.{duplicate_ids, is_link, is_adapting}
 use Rattle.circuit_spec.specs.Network.{Topology, Placed, Port, elements_of, id_of, names, port_of, ports}
 use Rattle.nml_inventory.specs.declared.arcs.Listing.TheVariants.{Inbound, Outbound}
 use Rattle.nml_elements.specs.declared.elements.Domain.{Domain}
@@ -16,18 +16,7 @@ use Rattle.nml_inventory.specs.Relations.{is_source, is_sink, is_server, is_clie
 use Rattle.nml_inventory.specs.Tables.{held_by, in_entry, in_port, inbound_in, lent_to, outbound_in, provided_in}
 use Rattle.nml_inventory.proofs.Lending.{lent_inbound, lent_outbound, own_inbound, own_outbound}
 use Rattle.nml_inventory.proofs.PortNumbers.{distinct_ports}
-
-no_ahead : {A : Type 0} (xs ys : List A) → xs ++ ys ≡ [] → xs ≡ []
-no_ahead [] ys e = refl
-no_ahead (x ∷ xs) ys e = cc
-
-no_behind : {A : Type 0} (xs ys : List A) → xs ++ ys ≡ [] → ys ≡ []
-no_behind [] ys e = e
-no_behind (x ∷ xs) ys e = cc
-
--- files that merge have no id twice
-pub merged_ids : (T : Topology) → merge_faults T ≡ [] → duplicate_ids T ≡ []
-merged_ids T e = no_behind (duplicate_topologies T) (duplicate_ids T) (no_ahead (duplicate_topologies T ++ duplicate_ids T) (wrong_kinds T) e)
+pub use Rattle.circuit_spec.proofs.Merged.{ids_once as merged_ids}
 
 pub source_by : (e : Element) (q : Port) → is_link e ≡ true → names q.sources (id_of e) ≡ is_source e q
 source_by (element.Link l) q h = refl

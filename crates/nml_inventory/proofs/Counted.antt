@@ -3,6 +3,7 @@ use Rattle.std.proofs.Common.{◌≡◌, ◌≢◌, ℕ, suc, ◌+◌, inl, inr,
 use Rattle.std.specs.Prelude.{slice_get}
 use Rattle.std.proofs.lemmas.List.{take_more}
 use Rattle.std.proofs.lemmas.Option.{slice_get_within, get_or_from_slice_get}
+use Rattle.ml_base.proofs.Lists.{one_of_some}
 use Rattle.circuit_spec.specs.Faults.{duplicate_ids}
 use Rattle.circuit_spec.specs.Network.{IsClass, Linked, Port, Topology, ports}
 use Rattle.circuit_spec.proofs.ClassLemmas.{First-unique}
@@ -10,7 +11,6 @@ use Rattle.nml_inventory.specs.Aliases.{IsClassNumber}
 use Rattle.nml_inventory.specs.Relations.{IsCount}
 use Rattle.nml_inventory.proofs.ClassNumbers.{port_id}
 use Rattle.nml_inventory.proofs.Distinct.{same_place}
-use Rattle.nml_inventory.proofs.Gets.{one_of_some}
 use Rattle.nml_inventory.proofs.PortNumbers.{distinct_ports}
 
 push_one : {A : Type 0} (P : A → Type 0) (xs : List A) (x : A) (n : ℕ) → P x → IsCount P xs n → IsCount P (xs ++ x ∷ []) (n + 1)

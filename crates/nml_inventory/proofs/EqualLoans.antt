@@ -1,11 +1,12 @@
 -- Loans of elements, numbered one after another.
-use Rattle.std.proofs.Common.{◌≡◌, ℕ, zero, suc, ◌+◌, ◌<◌, ◌≤◌, ◌⊎◌, inl, inr, List, [], ◌∷◌, ◌++◌, Bool, true, false, cond, Some, take, length, get_or, sym, ◌∙◌, ap, subst, arith, length-append}
+use Rattle.std.proofs.Common.{◌≡◌, ℕ, suc, ◌+◌, ◌<◌, ◌≤◌, ◌⊎◌, inl, inr, List, [], ◌∷◌, ◌++◌, Bool, true, false, cond, Some, take, length, get_or, sym, ◌∙◌, ap, subst, arith, length-append}
 use Rattle.std.specs.Prelude.{slice_get, is_none, ◌&&◌}
 use Rattle.std.specs.List.{All}
 use Rattle.std.proofs.lemmas.Bool.{cases_lt}
 use Rattle.std.proofs.lemmas.List.{length-take-le, take_more}
 use Rattle.std.proofs.lemmas.List.Elements.{All-append, All-cons, All-nil}
 use Rattle.std.proofs.lemmas.Option.{slice_get_within, get_or_from_slice_get}
+use Rattle.ml_base.proofs.Lists.{at_left}
 use Rattle.nml_elements.specs.declared.elements.Element.{Element}
 use Rattle.nml_elements.specs.declared.elements.Element.TheVariants as element
 use Rattle.circuit_spec.specs.Network.{Topology, Placed, elements_of, id_of, names}
@@ -20,17 +21,11 @@ pub record AreLoansUpTo (T : Topology) (number : ℕ) (kinds : List Loan) (rows 
   pub within : All (LendWithin (length (elements_of T))) kinds
   pub places : ArePlacesOf kinds rows (loans_from (lending_nodes T) 0 (take number (elements_of T)))
 
--- what stands at a place stays there
-get_before : {A : Type 0} (xs ys : List A) (i : ℕ) (x : A) → slice_get xs i ≡ Some x → slice_get (xs ++ ys) i ≡ Some x
-get_before [] ys i x at = cc
-get_before (z ∷ xs) ys zero x at = at
-get_before (z ∷ xs) ys (suc i) x at = get_before xs ys i x at
-
 places_stay : (kinds more : List Loan) (rows : List ℕ) (loans : List Loan) → ArePlacesOf kinds rows loans → ArePlacesOf (kinds ++ more) rows loans
 places_stay kinds more [] [] are = tt
 places_stay kinds more [] (l ∷ loans) are = absurd are
 places_stay kinds more (r ∷ rows) [] are = absurd are
-places_stay kinds more (r ∷ rows) (l ∷ loans) are = (get_before kinds more r l are.0, places_stay kinds more rows loans are.1)
+places_stay kinds more (r ∷ rows) (l ∷ loans) are = (at_left kinds more r l are.0, places_stay kinds more rows loans are.1)
 
 place_more : (kinds : List Loan) (rows : List ℕ) (loans : List Loan) (row : ℕ) (loan : Loan) → ArePlacesOf kinds rows loans → slice_get kinds row ≡ Some loan → ArePlacesOf kinds (rows ++ row ∷ []) (loans ++ loan ∷ [])
 place_more kinds [] [] row loan are at = (at, tt)

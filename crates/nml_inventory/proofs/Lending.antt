@@ -7,6 +7,8 @@ use Rattle.std.proofs.lemmas.Bool.{eqb-true, cases_lt}
 use Rattle.std.proofs.lemmas.List.{length-map, get_or_past}
 use Rattle.std.proofs.lemmas.Option.{slice_get_within}
 use Rattle.std.proofs.lemmas.List.Elements.{All-append, All-filter, All-map, All-nil, All-cons, All-weaker}
+use Rattle.std.proofs.Math.Bool.{and-true, and-false}
+use Rattle.ml_base.proofs.Lists.{one_of_some, any_filter}
 use Rattle.nml_elements.specs.declared.elements.NodeE.{NodeE}
 use Rattle.nml_elements.specs.declared.elements.SwitchE.{SwitchE}
 use Rattle.nml_elements.specs.declared.elements.Element.{Element}
@@ -24,9 +26,8 @@ use Rattle.nml_inventory.specs.Relations.{AreNumbersOf, numbers_where}
 use Rattle.nml_inventory.specs.Tables.{IsTable, in_element, inbound_in, outbound_in, lending_in, lending_nodes, listed_ports, lent_of, lent_over, lent_ports, lent_to, takes, takes_number}
 use Rattle.nml_inventory.proofs.ClassNumbers.{port_id}
 use Rattle.nml_inventory.proofs.Distinct.{AreDistinct, has_at}
-use Rattle.nml_inventory.proofs.Gets.{one_of_some}
 use Rattle.nml_inventory.proofs.LentPorts.{ports_of_services}
-use Rattle.nml_inventory.proofs.Searches.{any_filter, any_flat, any_same}
+use Rattle.nml_inventory.proofs.Searches.{any_flat, any_same}
 use Rattle.nml_inventory.proofs.Tabling.{Arc, any_and, any_numbers, filter_numbers, held_number, numbers_from, row_at, rows_all}
 use Rattle.alias_merge.proofs.Sorting.{any_map}
 
@@ -59,13 +60,9 @@ is_table {A} {B} test ys xs = record {
 
 -- Arcs of lending
 
-and_true : (c : Bool) → (c && true) ≡ c
-and_true true = refl
-and_true false = refl
-
 and_parts_of : (a b c d : Bool) → (d ≡ true → a ≡ c) → (a && (b && d)) ≡ ((b && c) && d)
-and_parts_of true true c true k = k refl ∙ sym (and_true c)
-and_parts_of false true c true k = k refl ∙ sym (and_true c)
+and_parts_of true true c true k = k refl ∙ sym (and-true c)
+and_parts_of false true c true k = k refl ∙ sym (and-true c)
 and_parts_of true false c true k = refl
 and_parts_of false false c true k = refl
 and_parts_of true true true false k = refl
@@ -105,10 +102,6 @@ loan_holds T listed l j = takes_number T l.encoding j && list_any (λ m. holds (
 abbrev pub list_of : Topology → List (List ℕ) → Loan → List ℕ
 list_of T listed l = filter (loan_holds T listed l) (range_with_len 0 (length (ports T)))
 
-and_false : (b : Bool) → (b && false) ≡ false
-and_false true = refl
-and_false false = refl
-
 -- the Nodes of a service hold a port's number where they lend the port
 nodes_hold : (T : Topology) (listing : Listing) (i j : ℕ) (e : Placed) (q : Port) → slice_get (elements_of T) i ≡ Some e → slice_get (ports T) j ≡ Some q → list_any (λ m. holds (get_or (listed_ports T listing) m []) j) (get_or (lending_nodes T) i []) ≡ list_any (λ (n : Placed). names (lending_in n.element) (id_of e.element) && names (in_element listing n.element) q.id) (elements_of T)
 nodes_hold T listing i j e q at_i at_j =
@@ -124,7 +117,7 @@ nodes_hold T listing i j e q at_i at_j =
 
 if_lent : (T : Topology) (listed : List (List ℕ)) (l : Loan) (j : ℕ) (b : Bool) → loan_holds T listed (cond b l no_loan) j ≡ (b && loan_holds T listed l j)
 if_lent T listed l j true = refl
-if_lent T listed l j false = and_false (takes_number T None j)
+if_lent T listed l j false = and-false (takes_number T None j)
 
 loan_lends : (T : Topology) (listing : Listing) (i j : ℕ) (x : Placed) (e : Element) (q : Port) → slice_get (elements_of T) i ≡ Some x → x.element ≡ e → slice_get (ports T) j ≡ Some q → loan_holds T (listed_ports T listing) (loan_at (lending_nodes T) i e) j ≡ lent_to T listing e q
 loan_lends T listing i j x (element.Switching s) q at_i is at_j =
@@ -133,12 +126,12 @@ loan_lends T listing i j x (element.Switching s) q at_i is at_j =
     ∙ ap (λ (o : Option Port). none && (unwrap_or (option_map (takes s.encoding) o) false && list_any (λ m. holds (get_or (listed_ports T listing) m []) j) (get_or (lending_nodes T) i []))) at_j
     ∙ ap (λ b. none && (takes s.encoding q && b)) (nodes_hold T listing i j x q at_i at_j)
     ∙ ap (λ (f : Element). none && (takes s.encoding q && list_any (λ (n : Placed). names (lending_in n.element) (id_of f) && names (in_element listing n.element) q.id) (elements_of T))) is
-loan_lends T listing i j x (element.Node y) q at_i is at_j = and_false (takes_number T None j)
-loan_lends T listing i j x (element.Port y) q at_i is at_j = and_false (takes_number T None j)
-loan_lends T listing i j x (element.Link y) q at_i is at_j = and_false (takes_number T None j)
-loan_lends T listing i j x (element.Adaptation y) q at_i is at_j = and_false (takes_number T None j)
-loan_lends T listing i j x (element.Deadaptation y) q at_i is at_j = and_false (takes_number T None j)
-loan_lends T listing i j x (element.Conversion y) q at_i is at_j = and_false (takes_number T None j)
+loan_lends T listing i j x (element.Node y) q at_i is at_j = and-false (takes_number T None j)
+loan_lends T listing i j x (element.Port y) q at_i is at_j = and-false (takes_number T None j)
+loan_lends T listing i j x (element.Link y) q at_i is at_j = and-false (takes_number T None j)
+loan_lends T listing i j x (element.Adaptation y) q at_i is at_j = and-false (takes_number T None j)
+loan_lends T listing i j x (element.Deadaptation y) q at_i is at_j = and-false (takes_number T None j)
+loan_lends T listing i j x (element.Conversion y) q at_i is at_j = and-false (takes_number T None j)
 
 filter_as : {A : Type 0} (s t : A → Bool) → ((x : A) → s x ≡ t x) → (xs : List A) → filter s xs ≡ filter t xs
 filter_as s t same [] = refl

@@ -6,6 +6,8 @@ use Rattle.std.proofs.lemmas.Bool.{eq-eqb, eqb-true, eqb-false, ne_eqb, and_part
 use Rattle.std.proofs.lemmas.List.{length-set, map-set}
 use Rattle.std.proofs.lemmas.List.Folds.{list_all-append}
 use Rattle.std.proofs.lemmas.Option.{slice_get-map, slice_get_within}
+use Rattle.std.proofs.Math.Bool.{and-true}
+use Rattle.ml_base.proofs.Lists.{one_of_some, some_at, range_more, all_from_places, all_at}
 use Rattle.nml_elements.specs.declared.elements.Labels.{Labels}
 use Rattle.nml_elements.specs.declared.elements.Labels.TheVariants.{Unlabelled, Of}
 use Rattle.nml_elements.specs.Labels.{is_among}
@@ -20,12 +22,7 @@ use Rattle.nml_inventory.specs.declared.labels.Part.{Part}
 use Rattle.nml_inventory.specs.Relations.{AreClassLabels}
 use Rattle.nml_inventory.proofs.ClassNumbers.{port_id}
 use Rattle.nml_inventory.proofs.Distinct.{same_place}
-use Rattle.nml_inventory.proofs.Gets.{one_of_some}
-use Rattle.nml_inventory.proofs.PortNumbers.{distinct_ports, some_at}
-
-and_true : (b : Bool) → (b && true) ≡ b
-and_true true = refl
-and_true false = refl
+use Rattle.nml_inventory.proofs.PortNumbers.{distinct_ports}
 
 and_self : (b : Bool) → (b && b) ≡ b
 and_self true = refl
@@ -33,7 +30,7 @@ and_self false = refl
 
 own_admits : (l : Labels) (label : ℕ) → (is_among l label && admits l label) ≡ (is_among l label && true)
 own_admits Unlabelled label = refl
-own_admits (Of labeltype s) label = and_self (has s label) ∙ sym (and_true (has s label))
+own_admits (Of labeltype s) label = and_self (has s label) ∙ sym (and-true (has s label))
 
 -- The labels of the first ports
 
@@ -92,26 +89,19 @@ set_cases (x ∷ xs) zero v (suc n) y at = inr ((λ e. omega arith), at)
 set_cases (x ∷ xs) (suc k) v zero y at = inr ((λ e. omega arith), at)
 set_cases (x ∷ xs) (suc k) v (suc n) y at = elim (set_cases xs k v n y at) [ inl p ↦ inl (ap suc p.0, p.1) | inr p ↦ inr ((λ e. p.0 (omega (arith, e))), p.1) ]
 
-range_more : (s n : ℕ) → range_with_len s (n + 1) ≡ range_with_len s n ++ (s + n) ∷ []
-range_more s zero = let e : s ≡ s + 0 = omega arith in ap (λ y. y ∷ []) e
-range_more s (suc n) =
-    let f : suc n + 1 ≡ suc (n + 1) = omega arith in
-    let e : s + 1 + n ≡ s + suc n = omega arith in
-    ap (range_with_len s) f ∙ ap (λ ys. s ∷ ys) (range_more (s + 1) n ∙ ap (λ y. range_with_len (s + 1) n ++ y ∷ []) e)
-
 all_more : (T : Topology) (classes : List ℕ) (count class label : ℕ) → all_admit T classes (count + 1) class label ≡ (all_admit T classes count class label && (not (get_or classes count 0 == class) || admits_at T count label))
 all_more T classes count class label =
     let t : ℕ → Bool = λ n. not (get_or classes n 0 == class) || admits_at T n label in
     let e : 0 + count ≡ count = omega arith in
     ap (list_all t) (range_more 0 count) ∙ list_all-append t (range_with_len 0 count) ((0 + count) ∷ [])
-    ∙ ap (λ b. list_all t (range_with_len 0 count) && b) (and_true (t (0 + count)) ∙ ap t e)
+    ∙ ap (λ b. list_all t (range_with_len 0 count) && b) (and-true (t (0 + count)) ∙ ap t e)
 
 and_step : (a p f t : Bool) → (a && p) ≡ (a && f) → (a && (p && t)) ≡ (a && (f && t))
 and_step true p f t e = ap (λ b. b && t) e
 and_step false p f t e = refl
 
 and_absorb : (a f t : Bool) → (a && t) ≡ (a && true) → (a && f) ≡ (a && (f && t))
-and_absorb true f t e = sym (ap (λ b. f && b) e ∙ and_true f)
+and_absorb true f t e = sym (ap (λ b. f && b) e ∙ and-true f)
 and_absorb false f t e = refl
 
 -- what one more port asks of the labels of its class
@@ -126,7 +116,7 @@ elsewhere_admits : (T : Topology) (classes : List ℕ) (count k number label : �
 elsewhere_admits T classes count k number label is apart =
     all_more T classes count number label
     ∙ ap (λ b. all_admit T classes count number label && (not b || admits_at T count label)) (ne_eqb (get_or classes count 0) number (λ e. apart (sym e ∙ sym is)))
-    ∙ and_true (all_admit T classes count number label)
+    ∙ and-true (all_admit T classes count number label)
 
 kept_parts : (T : Topology) (classes : List ℕ) (count k number : ℕ) (parts : List Part) → k ≡ get_or classes count 0 → number ≢ k → ArePartsOf T classes count number parts → ArePartsOf T classes (count + 1) number parts
 kept_parts T classes count k number parts is apart a = record {
@@ -196,15 +186,6 @@ from_range t a (suc n) all =
     and_from (t a) (list_all t (range_with_len (a + 1) n)) (ap t e ∙ all 0 (omega arith))
     (from_range t (a + 1) n (λ j l. let f : a + 1 + j ≡ a + suc j = omega arith in ap t f ∙ all (suc j) (omega (arith, l))))
 
-all_at : {A : Type 0} (P : A → Type 0) (xs : List A) (i : ℕ) (x : A) → AllByRecursion P xs → slice_get xs i ≡ Some x → P x
-all_at P [] i x all at = cc
-all_at P (y ∷ xs) zero x all at = subst P (one_of_some at) all.0
-all_at P (y ∷ xs) (suc i) x all at = all_at P xs i x all.1 at
-
-from_each : {A : Type 0} (P : A → Type 0) (xs : List A) → ((i : ℕ) (x : A) → slice_get xs i ≡ Some x → P x) → AllByRecursion P xs
-from_each P [] each = tt
-from_each P (y ∷ xs) each = (each 0 y refl, from_each P xs (λ i x at. each (suc i) x at))
-
 to_among : (l class : Labels) (label : ℕ) → admits l label ≡ true → is_among class label ≡ true → label_type l ≡ label_type class → is_among l label ≡ true
 to_among (Of labeltype s) class label h c e = h
 to_among Unlabelled Unlabelled label h c e = c
@@ -269,7 +250,7 @@ merged_labels T labels number k found once m n found_at fit p class at is_class 
     forth label h =
         let parts = and_parts (is_among narrow.port.labels label) (all_admit T m.classes (length (ports T)) k label) (sym (narrow.each label) ∙ h) in
         let own : is_among class.labels label ≡ true = ap (λ (q : Port). is_among q.labels label) (sym is_first) ∙ parts.0 in
-        from_each (λ (q : Port). Linked T class.id q.id → IsTrue (is_among q.labels label)) (ports T)
+        all_from_places (λ (q : Port). Linked T class.id q.id → IsTrue (is_among q.labels label)) (ports T)
         (λ j q q_at l.
         let e = numbered j q q_at l in
         let f : j ≡ 0 + j = omega arith in

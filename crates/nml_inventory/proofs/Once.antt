@@ -10,6 +10,7 @@ use Rattle.std.proofs.lemmas.List.Folds.{list_any-append}
 use Rattle.std.proofs.lemmas.List.Sums.{sum_by-cons, sum_by-append}
 use Rattle.std.proofs.lemmas.Option.{slice_get_within, get_or_from_slice_get}
 use Rattle.std.proofs.lemmas.Slice.Eq.{bytes_eq-Decides}
+use Rattle.std.proofs.Math.Bool.{or_assoc}
 use Rattle.nml_elements.specs.declared.elements.Element.{Element}
 use Rattle.nml_elements.specs.declared.elements.Element.TheVariants as element
 use Rattle.circuit_spec.specs.Faults.{Relation, relations_of}
@@ -21,10 +22,6 @@ use Rattle.nml_inventory.proofs.Members.{named_number}
 use Rattle.nml_inventory.proofs.PortNumbers.{number_found}
 
 -- Names once
-
-or_assoc : (a b c : Bool) → ((a || b) || c) ≡ (a || (b || c))
-or_assoc true b c = refl
-or_assoc false b c = refl
 
 once_push : (before xs : List Name) (x : Name) → once_behind before (xs ++ x ∷ []) ≡ once_behind before xs ++ cond (names (before ++ xs) x) [] (x ∷ [])
 once_push before [] x = ap (λ (ys : List Name). cond (names ys x) [] (x ∷ [])) (sym (append-nil before))

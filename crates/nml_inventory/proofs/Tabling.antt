@@ -9,6 +9,8 @@ use Rattle.std.proofs.lemmas.List.Elements.{All-append, All-cons, All-map, All-n
 use Rattle.std.proofs.lemmas.List.Folds.{list_any-append}
 use Rattle.std.proofs.lemmas.Option.{slice_get_within, get_or_from_slice_get}
 use Rattle.std.proofs.lemmas.Slice.Eq.{bytes_eq-Decides}
+use Rattle.std.proofs.Math.Bool.{or-false}
+use Rattle.ml_base.proofs.Lists.{one_of_some}
 use Rattle.alias_merge.specs.Groups.{ComeFromBelow}
 use Rattle.alias_merge.specs.Rising.{LeadBelow, has_arc, holds, rising_leads, turned}
 use Rattle.alias_merge.proofs.Sorting.{any_map, any_swapped, turned_below}
@@ -18,7 +20,6 @@ use Rattle.nml_inventory.specs.Aliases.{pairs_in}
 use Rattle.nml_inventory.specs.Relations.{numbers_where}
 use Rattle.nml_inventory.specs.Tables.{rows_from, pairs_named}
 use Rattle.nml_inventory.proofs.Distinct.{AreDistinct}
-use Rattle.nml_inventory.proofs.Gets.{one_of_some}
 use Rattle.nml_inventory.proofs.Noting.{number_within}
 use Rattle.nml_inventory.proofs.PortNumbers.{number_by, number_found}
 use Rattle.nml_inventory.proofs.Searches.{any_filter_map, any_same, passes}
@@ -117,10 +118,6 @@ no_row row leads_to n m j (x ∷ xs) rows less =
     ∙ ap (λ b. b || has_arc (rows_from row (n + 1) xs) m j) (rows n x m ∙ ap (λ b. b && leads_to n x) (ne_eqb n m (λ s. omega arith)))
     ∙ no_row row leads_to (n + 1) m j xs rows (omega arith)
 
-or_false : (b : Bool) → (b || false) ≡ b
-or_false true = refl
-or_false false = refl
-
 pub row_at : {A : Type 0} (row : ℕ → A → List Arc) (leads_to : ℕ → A → Bool) (n : ℕ) (xs : List A) (i j : ℕ) (x : A) → HaveRows row leads_to j → slice_get xs i ≡ Some x → has_arc (rows_from row n xs) (n + i) j ≡ leads_to (n + i) x
 row_at row leads_to n [] i j x rows at = cc
 row_at {A} row leads_to n (y ∷ xs) zero j x rows at =
@@ -128,7 +125,7 @@ row_at {A} row leads_to n (y ∷ xs) zero j x rows at =
     list_any-append (λ (a : Arc). (a.0 == n + 0) && (a.1 == j)) (row n y) (rows_from row (n + 1) xs)
     ∙ ap (λ b. b || has_arc (rows_from row (n + 1) xs) (n + 0) j) (rows n y (n + 0) ∙ ap (λ b. b && leads_to n y) (eq-eqb n (n + 0) e))
     ∙ ap (λ b. leads_to n y || b) (no_row row leads_to (n + 1) (n + 0) j xs rows (omega arith))
-    ∙ or_false (leads_to n y)
+    ∙ or-false (leads_to n y)
     ∙ ap (λ k. leads_to k y) e ∙ ap (λ (z : A). leads_to (n + 0) z) (one_of_some at)
 row_at {A} row leads_to n (y ∷ xs) (suc i) j x rows at =
     let f : n + 1 + i ≡ n + suc i = omega arith in

@@ -1,7 +1,7 @@
 -- What holds of each item of a list, and of each that a filter or a map makes of it.
-use Rattle.std.proofs.Common.{◌≡◌, inl, inr, List, [], ◌∷◌, ◌++◌, Bool, true, false, cond, Option, None, Some, map, filter, refl, sym, subst}
+use Rattle.std.proofs.Common.{◌≡◌, inr, List, [], ◌∷◌, ◌++◌, Bool, true, false, cond, Option, None, Some, map, filter, refl}
 use Rattle.std.specs.List.{filter_map, flat_map, AllByRecursion}
-use Rattle.circuit_spec.proofs.Among.{IsAmong}
+use Rattle.ml_base.specs.Lists.{IsAmong}
 
 pub all_join : {A : Type 0} (P : A → Type 0) (xs ys : List A) → AllByRecursion P xs → AllByRecursion P ys → AllByRecursion P (xs ++ ys)
 all_join P [] ys all more = more
@@ -53,26 +53,3 @@ all_some P f [] all = tt
 all_some P f (x ∷ xs) all = all_some_by P f (f x) x xs refl all.0 (all_some P f xs all.1)
 
 -- among items
-
-pub all_among : {A : Type 0} (P : A → Type 0) (xs : List A) (x : A) → AllByRecursion P xs → IsAmong xs x → P x
-all_among P [] x all h = absurd h
-all_among P (y ∷ ys) x all (inl e) = subst P (sym e) all.0
-all_among P (y ∷ ys) x all (inr later) = all_among P ys x all.1 later
-
-pub among_left : {A : Type 0} (xs ys : List A) (x : A) → IsAmong xs x → IsAmong (xs ++ ys) x
-among_left [] ys x h = absurd h
-among_left (y ∷ xs) ys x (inl e) = inl e
-among_left (y ∷ xs) ys x (inr later) = inr (among_left xs ys x later)
-
-pub among_right : {A : Type 0} (xs ys : List A) (x : A) → IsAmong ys x → IsAmong (xs ++ ys) x
-among_right [] ys x h = h
-among_right (y ∷ xs) ys x h = inr (among_right xs ys x h)
-
-among_some_by : {A B : Type 0} (f : A → Option B) (o : Option B) (y : A) (ys : List A) (z : B) → f y ≡ o → IsAmong (filter_map f ys) z → IsAmong (filter_map f (y ∷ ys)) z
-among_some_by f None y ys z is h = rw is h
-among_some_by f (Some x) y ys z is h = rw is (inr h)
-
-pub among_some : {A B : Type 0} (f : A → Option B) (xs : List A) (x : A) (z : B) → IsAmong xs x → f x ≡ Some z → IsAmong (filter_map f xs) z
-among_some f [] x z h is = absurd h
-among_some f (y ∷ ys) x z (inl e) is = let same : f y ≡ Some z = cc in rw same (inl refl)
-among_some f (y ∷ ys) x z (inr later) is = among_some_by f (f y) y ys z refl (among_some f ys x z later is)

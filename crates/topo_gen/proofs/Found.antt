@@ -1,10 +1,10 @@
 -- Each element of each level is found by its id.
 use Rattle.std.proofs.Common.{◌≡◌, ℕ, zero, suc, ◌+◌, ◌<◌, ◌≤◌, inl, inr, Some, sym, subst, arith}
 use Rattle.std.proofs.lemmas.Bool.{cases_order}
+use Rattle.ml_base.specs.Lists.{IsAmong}
+use Rattle.ml_base.proofs.Lists.{among_left, among_right}
 use Rattle.circuit_spec.specs.Network.{Placed, elements_of, element_named, id_of, placed_in}
-use Rattle.circuit_spec.proofs.Among.{IsAmong}
 use Rattle.topo_gen.specs.Tunnels.{ground, tunnel, generated_domains}
-use Rattle.topo_gen.proofs.Each.{among_left, among_right}
 use Rattle.topo_gen.proofs.Rising.{found, rises_before_map}
 use Rattle.topo_gen.proofs.Places.{upper, place_of, place_at, elements_rise}
 

@@ -4,21 +4,20 @@ use Rattle.std.specs.List.{find}
 use Rattle.std.specs.Str.{bytes_eq}
 use Rattle.std.proofs.lemmas.Bool.{and_from, or_left, or_right, lt-ltb}
 use Rattle.std.proofs.lemmas.Slice.Eq.{bytes_eq-Decides}
+use Rattle.ml_base.proofs.Lists.{any_among, all_among, among_filter_map}
+use Rattle.ml_base.specs.Lists.{IsAmong}
+use Rattle.ml_base.proofs.Comparisons.{bytes_itself}
 use Rattle.circuit_spec.specs.Network.{Name, Topology, Placed, Port, IsClass, elements_of, names, port_at, port_has, ports}
 use Rattle.circuit_spec.specs.Faults.{IsKnown}
-use Rattle.circuit_spec.proofs.Among.{IsAmong, among_find, any_among}
+use Rattle.circuit_spec.proofs.Among.{among_find}
 use Rattle.circuit_spec.proofs.Alone.{alone_class}
 use Rattle.circuit_spec.proofs.Plain.{read_port}
 use Rattle.topo_gen.specs.Tunnels.{named, services_above, link_ids, ground, tunnel, generated_domains, generated_request}
-use Rattle.topo_gen.proofs.Each.{all_among, among_some}
 use Rattle.topo_gen.proofs.Found.{among_ground, among_level}
 use Rattle.topo_gen.proofs.Plain.{IsPlainPort, no_aliases, ports_plain}
 
-pub same_bytes : (x : Name) → bytes_eq x x ≡ true
-same_bytes x = (bytes_eq-Decides x x).1 refl
-
 pub names_first : (x : Name) (xs : List Name) → names (x ∷ xs) x ≡ true
-names_first x xs = or_left (bytes_eq x x) (names xs x) (same_bytes x)
+names_first x xs = or_left (bytes_eq x x) (names xs x) (bytes_itself x)
 
 pub names_second : (x y : Name) (xs : List Name) → names (y ∷ x ∷ xs) x ≡ true
 names_second x y xs = or_right (bytes_eq y x) (names (x ∷ xs) x) (names_first x xs)
@@ -42,7 +41,7 @@ pub record HasPort (T : Topology) (id : Name) : Type 0 where
 
 -- a port of the network passes the test
 pub passes : (T : Topology) (q : Port) (test : Port → Bool) → IsAmong (ports T) q → test q ≡ true → port_has T q.id test ≡ true
-passes T q test h t = any_among (λ p. bytes_eq p.id q.id && test p) (ports T) q h (and_from (bytes_eq q.id q.id) (test q) (same_bytes q.id) t)
+passes T q test h t = any_among (λ p. bytes_eq p.id q.id && test p) (ports T) q h (and_from (bytes_eq q.id q.id) (test q) (bytes_itself q.id) t)
 
 module _ (levels : ℕ) where
   abbrev T : Topology
@@ -50,7 +49,7 @@ module _ (levels : ℕ) where
 
   pub has_port : (q : Port) → IsAmong (ports T) q → HasPort T q.id
   has_port q h =
-      let some = found_some (λ p. bytes_eq p.id q.id) (ports T) q h (same_bytes q.id) in
+      let some = found_some (λ p. bytes_eq p.id q.id) (ports T) q h (bytes_itself q.id) in
       let among = among_find (λ (p : Port). bytes_eq p.id q.id) (ports T) some.0 some.1 in
       record {
         port = some.0;
@@ -60,7 +59,7 @@ module _ (levels : ℕ) where
       }
 
   among_ports : (p : Placed) (q : Port) → IsAmong (elements_of T) p → port_at p.domain p.element ≡ Some q → IsAmong (ports T) q
-  among_ports p q h is = among_some (λ (r : Placed). port_at r.domain r.element) (elements_of T) p q h is
+  among_ports p q h is = among_filter_map (λ (r : Placed). port_at r.domain r.element) (elements_of T) p q h is
 
   -- the ports of a level: the first, the middle one, the last
   abbrev pub x : ℕ → List Name → Port

@@ -4,9 +4,9 @@ use Rattle.std.specs.List.{find, AllByRecursion}
 use Rattle.std.specs.Str.{bytes_eq}
 use Rattle.std.proofs.lemmas.Bool.{false_from_ne_true}
 use Rattle.std.proofs.lemmas.Slice.Eq.{bytes_eq-Decides}
+use Rattle.ml_base.specs.Lists.{IsAmong}
 use Rattle.circuit_spec.specs.Network.{Name}
 use Rattle.circuit_spec.specs.Faults.{repeats_after}
-use Rattle.circuit_spec.proofs.Among.{IsAmong}
 use Rattle.topo_gen.proofs.Each.{all_join, all_weaker}
 
 -- the items stand at rising places, from this one on

@@ -3,6 +3,7 @@ use Rattle.std.specs.Prelude.{nat_lt}
 use Rattle.std.proofs.Common.{◌≡◌, ℕ, zero, suc, ◌+◌, ◌<◌, ◌≤◌, inl, inr, List, [], ◌∷◌, Bool, true, false, Some, codes, map, refl, sym, subst, ap, arith}
 use Rattle.std.specs.List.{flat_map, AllByRecursion}
 use Rattle.std.proofs.lemmas.Bool.{cond_both, ltb-true}
+use Rattle.ml_base.specs.Lists.{IsAmong}
 use Rattle.nml_elements.specs.declared.elements.Element.{Element}
 use Rattle.circuit_spec.specs.declared.faults.Spot.{Spot}
 use Rattle.circuit_spec.specs.declared.faults.Member.{Member}
@@ -10,7 +11,6 @@ use Rattle.circuit_spec.specs.declared.faults.Member.TheVariants as member
 use Rattle.circuit_spec.specs.declared.faults.MergeFault.TheVariants.{WrongKind}
 use Rattle.circuit_spec.specs.Network.{Name, Topology, Placed, element_named, id_of, placed_in}
 use Rattle.circuit_spec.specs.Faults.{Located, located, is_port, is_link, is_adapting, is_wrong, relation, relations_of, wrong_targets, wrong_kinds}
-use Rattle.circuit_spec.proofs.Among.{IsAmong}
 use Rattle.topo_gen.specs.Tunnels.{named, port, link, adaptation, deadaptation, services_above, first_port, last_port, link_ids, ground, tunnel, generated_domains}
 use Rattle.topo_gen.proofs.Each.{all_weaker, all_before_map, none_passes, all_empty}
 use Rattle.topo_gen.proofs.Places.{upper, elements_in, located_elements}

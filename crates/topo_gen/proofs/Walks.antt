@@ -3,6 +3,7 @@ use Rattle.std.proofs.Common.{◌≡◌, ℕ, zero, suc, ◌+◌, ◌-◌, ◌*�
 use Rattle.std.proofs.Math.Nat.{pow-succ'}
 use Rattle.std.proofs.lemmas.List.Sums.{sum_by-append, sum_by-cons}
 use Rattle.ml_base.specs.Weight.{FullWeight}
+use Rattle.ml_base.specs.Lists.{IsAmong}
 use Rattle.std.specs.List.{range_with_len}
 use Rattle.nml_elements.specs.declared.elements.Domain.{Domain}
 use Rattle.nml_elements.specs.declared.elements.Element.{Element}
@@ -13,7 +14,6 @@ use Rattle.circuit_spec.specs.declared.hops.HopKind.TheVariants as kind
 use Rattle.circuit_spec.specs.declared.hops.Unit.{Unit as DataUnit}
 use Rattle.circuit_spec.specs.Network.{Name, Topology, Placed, Port, element_named, id_of, names, placed_in, serves}
 use Rattle.circuit_spec.specs.Steps.{Rule, Run, Step, Walk, cost_of, cost_of_element, frame_of, weight_of}
-use Rattle.circuit_spec.proofs.Among.{IsAmong}
 use Rattle.topo_gen.specs.Tunnels.{named, link, adaptation, deadaptation, link_ids, ground, tunnel, generated_domains, generated_request, generated_weight}
 use Rattle.topo_gen.proofs.Found.{among_level, among_ground, is_named}
 use Rattle.topo_gen.proofs.Plain.{IsPlainPort}

@@ -1,9 +1,9 @@
 use Rattle.std.proofs.Common.{ℕ, ◌<◌, refl, length, map, slice_index, arith}
 use Rattle.std.proofs.lemmas.List.{length-map}
 use Rattle.std.proofs.lemmas.Option.{slice_get_read, slice_get_within}
+use Rattle.ml_base.proofs.Lists.{some_at}
 use Rattle.circuit_spec.specs.Network.{port_of, ports}
 use Rattle.nml_inventory.proofs.Merging.{list_more, parts_first}
-use Rattle.nml_inventory.proofs.PortNumbers.{some_at}
 use Rattle.nml_inventory.proofs.labels.add_port.Goals as goal
 
 pub returns-then-class-port : goal.returns-then-class-port
