@@ -1,7 +1,8 @@
 -- What is told of a request, with its rules and potentials, is the exact answer; it stands in order, and has a certificate.
-use Rattle.std.proofs.Common.{◌≡◌, ◌≤◌, ◌^◌, ℕ, List, [], ◌∷◌, Option, length, min, refl, sym, ◌∙◌, ap, subst, arith}
+use Rattle.std.proofs.Common.{◌≡◌, ◌≤◌, ◌^◌, ℕ, List, [], Option, length, min, sym, ◌∙◌, ap, subst, arith}
 use Rattle.std.proofs.lemmas.Grind.{common_steps}
 use Rattle.std.proofs.lemmas.List.Sorted.{length_permutation}
+use Rattle.std.proofs.lemmas.List.{nil_from_length}
 use Rattle.ml_base.specs.Weight.{FullWeight}
 use Rattle.circuit_spec.specs.declared.hops.Hop.{Hop}
 use Rattle.circuit_spec.specs.declared.hops.Outcome.{Outcome}
@@ -49,15 +50,11 @@ short_outcome T r (Long cost hops) is = capped (weight_of T is.0.hops) (cap_know
     capped : (w : FullWeight) → min w.hops (2 ^ 40) ≡ hops → hops ≤ 2 ^ 40
     capped w e = grind (arith, common_steps)
 
-none_of_none : {A : Type 0} (xs : List A) → length xs ≡ 0 → xs ≡ []
-none_of_none [] e = refl
-none_of_none (x ∷ xs) e = absurd (omega arith)
-
 unwalked : (T : Topology) (a : Answer) → IsExactAnswer T a → a.hops ≡ [] → IsNoWalk a
 unwalked T a exact none = (
   none,
-  none_of_none a.flags (sym (flags_for_hops T a.request a.hops a.flags exact.flags) ∙ ap length none),
-  none_of_none a.rules (length_permutation (numbered 1 a.hops) a.rules exact.rules.same ∙ ap (λ hs. length (numbered 1 hs)) none),
+  nil_from_length a.flags (sym (flags_for_hops T a.request a.hops a.flags exact.flags) ∙ ap length none),
+  nil_from_length a.rules (length_permutation (numbered 1 a.hops) a.rules exact.rules.same ∙ ap (λ hs. length (numbered 1 hs)) none),
 )
 
 walk_ordered : (T : Topology) (a : Answer) (o : Outcome) → IsExactAnswer T a → AreHopsOf T a.request o a.hops → IsWalkOrdered o a

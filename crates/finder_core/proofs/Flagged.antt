@@ -1,12 +1,10 @@
 -- The flags of steps by their states are the flags of their hops by their places.
-use Rattle.std.proofs.Common.{◌≡◌, ◌≢◌, ℕ, suc, ◌+◌, ◌⊎◌, inl, inr, List, [], ◌∷◌, ◌++◌, Bool, true, false, ◌&&◌, Option, None, Some, cond, length, nat_eq, refl, sym, ◌∙◌, ap, subst}
+use Rattle.std.proofs.Common.{◌≡◌, ◌≢◌, ℕ, ◌+◌, ◌⊎◌, inl, inr, List, [], ◌∷◌, ◌++◌, Bool, true, false, Option, Some, cond, length, nat_eq, refl, sym, ◌∙◌, ap, subst}
 use Rattle.std.specs.Prelude.{slice_get, unwrap_or, option_map}
-use Rattle.std.specs.Bool.{Decides}
 use Rattle.std.specs.List.{position, position_from}
-use Rattle.std.specs.Str.{bytes_eq}
-use Rattle.std.proofs.lemmas.Bool.{cases_eq, eq-eqb, eqb-true, ne_eqb}
+use Rattle.std.proofs.lemmas.Bool.{cases_eq, eq-eqb, ne_eqb}
 use Rattle.std.proofs.lemmas.Iterator.Adapters.{position_from-zero}
-use Rattle.std.proofs.lemmas.Slice.Eq.{bytes_eq-Decides}
+use Rattle.ml_base.proofs.Lists.{same_at}
 use Rattle.adapt_machine.specs.declared.MachineKind.{MachineKind}
 use Rattle.adapt_machine.specs.declared.MachineKind.TheVariants.{Flat, Push, Pop}
 use Rattle.adapt_machine.specs.declared.MachineStep.{MachineStep}
@@ -15,15 +13,17 @@ use Rattle.circuit_spec.specs.declared.hops.Hop.{Hop}
 use Rattle.circuit_spec.specs.declared.hops.PlaceName.{PlaceName}
 use Rattle.circuit_spec.specs.declared.hops.Request.{Request}
 use Rattle.circuit_spec.specs.Faults.{IsKnown}
-use Rattle.circuit_spec.specs.Flags.{Enters, flags_after, same_place, same_tag}
+use Rattle.circuit_spec.specs.Flags.{Enters, flags_after, same_place}
 use Rattle.circuit_spec.specs.Network.{Name, Tag, Topology, Port, Linked, ports}
 use Rattle.circuit_spec.specs.Segments.{unit_in}
 use Rattle.circuit_spec.specs.Steps.{Ends, Joins, Step, Walk}
 use Rattle.circuit_spec.proofs.ClassLemmas.{First-unique}
+use Rattle.circuit_spec.proofs.Places.{same_places, place_itself}
+use Rattle.circuit_spec.proofs.Flags.{length-flags_after, length-enters}
 use Rattle.open_places.specs.Places.{IsRising}
+use Rattle.open_places.proofs.Ordered.{states_once}
 use Rattle.machine_build.specs.Built.{BuiltValue, IsHopAt, MovesBy}
 use Rattle.machine_lift.specs.Lift.{AreHopsAt, IsMachineOf}
-use Rattle.machine_lift.proofs.States.{one_number, same_at}
 use Rattle.answer_spec.specs.Arriving.{start_of}
 use Rattle.answer_spec.specs.Certificate.{AreFlagged}
 use Rattle.answer_spec.proofs.Carried.{walk_flagged}
@@ -31,34 +31,15 @@ use Rattle.finder_core.specs.Passing.{flags_of, repeats_after, state_entered, st
 
 -- Places are the same where their states are
 
-tag_decides : (x y : Tag) → Decides (same_tag x y) (x ≡ y)
-tag_decides None None = (λ e. refl, λ e. refl)
-tag_decides None (Some n) = (λ e. absurd (cc), λ e. absurd (cc))
-tag_decides (Some m) None = (λ e. absurd (cc), λ e. absurd (cc))
-tag_decides (Some m) (Some n) = (λ e. ap Some (eqb-true m n e), λ e. let same : m ≡ n = cc in eq-eqb m n same)
-
 make_place : Name → Tag → PlaceName
 make_place class label = record { class = class; label = label }
-
-both_true : (a b : Bool) → a && b ≡ true → (a ≡ true) × (b ≡ true)
-both_true true b e = (refl, e)
-both_true false b e = absurd (cc)
-
-same_places : (x y : PlaceName) → same_place x y ≡ true → x ≡ y
-unfolding make_place
-same_places x y e =
-    let parts = both_true (bytes_eq x.class y.class) (same_tag x.label y.label) e in
-    ap (λ c. make_place c x.label) ((bytes_eq-Decides x.class y.class).0 parts.0) ∙ ap (make_place y.class) ((tag_decides x.label y.label).0 parts.1)
-
-place_itself : (x : PlaceName) → same_place x x ≡ true
-place_itself x = ap (λ b. b && same_tag x.label x.label) ((bytes_eq-Decides x.class x.class).1 refl) ∙ (tag_decides x.label x.label).1 refl
 
 -- the test of states and the test of their places
 same_test : (places : List PlaceName) (s t : ℕ) (x y : PlaceName) → IsRising places → slice_get places s ≡ Some x → slice_get places t ≡ Some y → nat_eq t s ≡ same_place x y
 same_test places s t x y rise atx aty = go (cases_eq t s)
   where
     other : (b : Bool) → same_place x y ≡ b → t ≢ s → false ≡ same_place x y
-    other true e ne = absurd (ne (one_number places t s x rise (subst (λ z. slice_get places t ≡ Some z) (sym (same_places x y e)) aty) atx))
+    other true e ne = absurd (ne (states_once places t s x rise (subst (λ z. slice_get places t ≡ Some z) (sym (same_places x y e)) aty) atx))
     other false e ne = sym e
 
     go : (t ≡ s) ⊎ (t ≡ s → ⊥) → nat_eq t s ≡ same_place x y
@@ -164,14 +145,5 @@ none_flagged T r hops flags known none e =
 
 -- Each hop has one flag
 
-flags_counted : (before entered : List PlaceName) → length (flags_after before entered) ≡ length entered
-flags_counted before [] = refl
-flags_counted before (x ∷ entered) = ap suc (flags_counted (before ++ x ∷ []) entered)
-
-entered_counted : (T : Topology) (hops : List Hop) (places : List PlaceName) → Enters T hops places → length hops ≡ length places
-entered_counted T [] places e = ap length (sym e)
-entered_counted T (h ∷ hops) [] e = absurd e
-entered_counted T (h ∷ hops) (x ∷ places) e = ap suc (entered_counted T hops places e.1)
-
 pub flags_for_hops : (T : Topology) (r : Request) (hops : List Hop) (flags : List (Option ℕ)) → AreFlagged T r hops flags → length hops ≡ length flags
-flags_for_hops T r hops flags (class, is_class, (places, enters, are)) = entered_counted T hops places enters ∙ sym (flags_counted _ places) ∙ ap length (sym are)
+flags_for_hops T r hops flags (class, is_class, (places, enters, are)) = length-enters T hops places enters ∙ sym (length-flags_after _ places) ∙ ap length (sym are)

@@ -8,6 +8,7 @@ use Rattle.std.proofs.lemmas.Bool.{both_ways}
 use Rattle.std.proofs.lemmas.Slice.Eq.{bytes_eq-Decides}
 use Rattle.ml_base.specs.declared.numbers.PortNo.{PortNo}
 use Rattle.ml_base.specs.declared.numbers.Wish.TheVariants.{Any, Value}
+use Rattle.ml_base.proofs.Lists.{one_of_some}
 use Rattle.nml_elements.specs.declared.elements.Labels.{Labels}
 use Rattle.nml_elements.specs.Labels.{is_among}
 use Rattle.circuit_spec.specs.declared.hops.Request.{Request}
@@ -58,9 +59,6 @@ to_missed T r m n NoMemory c d known s = tt
 
 abbrev as_port : ℕ → PortNo
 as_port n = record { 0 = n }
-
-one_of_some : {A : Type 0} {x y : A} → Some x ≡ Some y → x ≡ y
-one_of_some e = cc
 
 same_at : {A : Type 0} (o : Option A) (x y : A) → o ≡ Some x → o ≡ Some y → x ≡ y
 same_at o x y e f = cc

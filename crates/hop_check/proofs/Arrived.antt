@@ -2,7 +2,7 @@
 use Rattle.std.proofs.Common.{◌≡◌, ◌↔◌, ℕ, List, [], ◌∷◌, length, Bool, true, false, not, Some, refl, sym, ◌∙◌, ap, subst}
 use Rattle.std.specs.Prelude.{slice_get, option_map}
 use Rattle.std.specs.Str.{bytes_eq}
-use Rattle.std.proofs.lemmas.Bool.{both_ways}
+use Rattle.std.proofs.lemmas.Bool.{both_ways, not-false}
 use Rattle.std.proofs.lemmas.List.{nil_from_length}
 use Rattle.std.proofs.lemmas.Slice.Eq.{bytes_eq-Decides}
 use Rattle.ml_base.specs.declared.numbers.Wish.{Wish}
@@ -16,23 +16,18 @@ use Rattle.circuit_spec.specs.Faults.{IsHere, IsKnown, IsKnownEnd}
 use Rattle.circuit_spec.specs.Network.{Name, Tag, Topology, Port, IsClass, IsOpen, ports}
 use Rattle.circuit_spec.specs.Segments.{unit_in}
 use Rattle.circuit_spec.specs.Steps.{IsWished, Run, Walk, unit_at}
-use Rattle.circuit_spec.proofs.ClassLemmas.{class_of_itself}
+use Rattle.circuit_spec.proofs.ClassLemmas.{class_of_itself, one_class, same_class}
 use Rattle.nml_inventory.specs.Relations.{AreClassLabels}
 use Rattle.packet_replay.specs.Carried.{admits}
 use Rattle.packet_replay.proofs.Opened.{opened}
 use Rattle.answer_spec.specs.declared.answer.Answer.{Answer}
 use Rattle.answer_spec.specs.Certificate.{first_place}
 use Rattle.answer_spec.proofs.Carried.{arrived, ends_allowed}
-use Rattle.verdict.proofs.Stuck.{one_class, one_run}
+use Rattle.verdict.proofs.Stuck.{one_run}
 use Rattle.hop_check.specs.Arriving.{EndsWell, IsSomewhere, ServesBoth}
 use Rattle.hop_check.specs.Carrying.{Leads}
 use Rattle.hop_check.specs.Deciding.{IsClassNo}
 use Rattle.hop_check.proofs.Named.{class_named}
-
--- classes of one name are one
-pub same_class : (T : Topology) (port other : Name) (x y : Port) → IsClass T port x → IsClass T other y → x.id ≡ y.id → x ≡ y
-same_class T port other x y first second same =
-    one_class T y.id x y (subst (λ (n : Name). IsClass T n x) same (class_of_itself T port x first)) (class_of_itself T other y second)
 
 -- ---- no hops
 
@@ -156,15 +151,11 @@ turned : (t : Bool) → not t ≡ true → t ≡ false
 turned true e = cc
 turned false e = refl
 
-kept : (t : Bool) → not t ≡ false → t ≡ true
-kept true e = refl
-kept false e = cc
-
 pub name_apart : (a b : Name) (r : Bool) → r ≡ not (bytes_eq a b) → r ≡ true → a ≡ b → ⊥
 name_apart a b r is told same = both_ways (bytes_eq a b) (turned (bytes_eq a b) (sym is ∙ told)) ((bytes_eq-Decides a b).1 same)
 
 pub name_same : (a b : Name) (r : Bool) → r ≡ not (bytes_eq a b) → r ≡ false → a ≡ b
-name_same a b r is none = (bytes_eq-Decides a b).0 (kept (bytes_eq a b) (sym is ∙ none))
+name_same a b r is none = (bytes_eq-Decides a b).0 (not-false (bytes_eq a b) (sym is ∙ none))
 
 -- a list that is not empty has a first item
 pub some_first : {A : Type 0} (xs : List A) (n : ℕ) → n ≡ length xs → (n ≡ 0 → ⊥) → (x : A) × (rest : List A) × (xs ≡ x ∷ rest)

@@ -1,12 +1,13 @@
 -- What the hops cost.
 use Rattle.std.proofs.Common.{◌≡◌, ℕ, Option, None, Some, sym, ◌∙◌, ap}
 use Rattle.std.specs.Prelude.{slice_get, option_map, unwrap_or}
+use Rattle.ml_base.proofs.Lists.{one_of_some}
 use Rattle.nml_elements.specs.declared.elements.Element.{Element}
 use Rattle.circuit_spec.specs.declared.hops.Hop.{Hop}
 use Rattle.circuit_spec.specs.Network.{Name, Topology, Placed, elements_of}
 use Rattle.circuit_spec.specs.Steps.{cost_of, cost_of_element}
 use Rattle.nml_inventory.specs.Numbers.{element_number}
-use Rattle.packet_replay.proofs.Named.{element_of_number, no_element, one_of_some}
+use Rattle.packet_replay.proofs.Named.{element_of_number, no_element}
 
 cost_at : Option Placed → ℕ
 cost_at o = unwrap_or (option_map (λ (p : Placed). cost_of_element p.element) o) 0

@@ -3,16 +3,16 @@ use Rattle.std.proofs.Common.{◌≡◌, ◌↔◌, ℕ, true, Bool, Some, sym, 
 use Rattle.std.specs.Prelude.{slice_get, option_map}
 use Rattle.ml_base.specs.declared.numbers.PortNo.{PortNo}
 use Rattle.ml_base.specs.declared.numbers.Wish.TheVariants.{Value}
+use Rattle.ml_base.proofs.Lists.{one_of_some}
 use Rattle.nml_elements.specs.declared.elements.Labels.{Labels}
 use Rattle.nml_elements.specs.Labels.{is_among}
 use Rattle.circuit_spec.specs.Faults.{IsKnownEnd}
 use Rattle.circuit_spec.specs.Network.{Name, Topology, Port, IsClass, IsInClassSet, ports}
-use Rattle.circuit_spec.proofs.ClassLemmas.{class_of_itself}
+use Rattle.circuit_spec.proofs.ClassLemmas.{class_of_itself, one_class}
 use Rattle.nml_inventory.specs.Aliases.{IsClassNumber}
 use Rattle.nml_inventory.specs.Numbers.{port_number}
 use Rattle.nml_inventory.specs.Relations.{AreClassLabels}
-use Rattle.packet_replay.proofs.Named.{end_found, one_of_some}
-use Rattle.verdict.proofs.Stuck.{one_class}
+use Rattle.packet_replay.proofs.Named.{end_found}
 use Rattle.hop_check.specs.Deciding.{IsClassNo}
 
 abbrev as_port : ℕ → PortNo

@@ -6,6 +6,7 @@ use Rattle.std.specs.Option.{option_eq}
 use Rattle.std.proofs.lemmas.Bool.{and_parts, and_from}
 use Rattle.std.proofs.lemmas.Bool.Decides.{nat_tests}
 use Rattle.std.proofs.lemmas.Slice.Eq.{bytes_eq-Decides}
+use Rattle.ml_base.proofs.Comparisons.{bytes_itself}
 use denote.Enum.Bare.{sameb, same_true, true_same}
 use Rattle.circuit_spec.specs.contracts.hops.HopKind.{the_type}
 use Rattle.circuit_spec.specs.declared.hops.Hop.{Hop}
@@ -22,9 +23,6 @@ same_tag (Some m) (Some n) h = ap Some (grind (arith, nat_tests))
 tag_itself : (a : Tag) → option_eq nat_eq a a ≡ true
 tag_itself None = refl
 tag_itself (Some n) = grind (arith, nat_tests)
-
-name_itself : (a : Name) → bytes_eq a a ≡ true
-name_itself a = (bytes_eq-Decides a a).1 refl
 
 hop_of : HopKind → Name → Name → Tag → Name → Tag → Name → Hop
 hop_of k e f l t m d = record { kind = k; element = e; from = f; from_label = l; to = t; to_label = m; domain = d }
@@ -69,11 +67,11 @@ parts_themselves : (a : Hop) → same_parts a a ≡ true
 unfolding same_parts
 parts_themselves a =
     and_from (sameb the_type a.kind a.kind) _ (true_same the_type a.kind a.kind refl)
-    (and_from (bytes_eq a.element a.element) _ (name_itself a.element)
-    (and_from (bytes_eq a.from a.from) _ (name_itself a.from)
+    (and_from (bytes_eq a.element a.element) _ (bytes_itself a.element)
+    (and_from (bytes_eq a.from a.from) _ (bytes_itself a.from)
     (and_from (option_eq nat_eq a.from_label a.from_label) _ (tag_itself a.from_label)
-    (and_from (bytes_eq a.to a.to) _ (name_itself a.to)
-    (and_from (option_eq nat_eq a.to_label a.to_label) _ (tag_itself a.to_label) (name_itself a.domain))))))
+    (and_from (bytes_eq a.to a.to) _ (bytes_itself a.to)
+    (and_from (option_eq nat_eq a.to_label a.to_label) _ (tag_itself a.to_label) (bytes_itself a.domain))))))
 
 rule_of : ℕ → Hop → Rule
 rule_of n h = record { number = n; hop = h }

@@ -6,18 +6,19 @@ use Rattle.std.specs.Option.{option_or}
 use Rattle.std.specs.Ordering.{nat_cmp, is_eq, ordering_then}
 use Rattle.std.specs.Cmp.Lexicographic.{slice_cmp}
 use Rattle.std.specs.Str.{bytes_eq}
-use Rattle.std.proofs.lemmas.Bool.{and_parts, both_ways}
+use Rattle.std.proofs.lemmas.Bool.{both_ways}
 use Rattle.std.proofs.lemmas.Bool.Decides.{nat_tests}
 use Rattle.std.proofs.lemmas.Iterator.Adapters.{position_from-zero}
 use Rattle.std.proofs.lemmas.Map.Text.{is_eq-slice_cmp}
-use Rattle.std.proofs.lemmas.Slice.Eq.{bytes_eq-Decides}
 use Rattle.circuit_spec.specs.declared.hops.Hop.{Hop}
 use Rattle.circuit_spec.specs.declared.hops.PlaceName.{PlaceName}
 use Rattle.circuit_spec.specs.Flags.{Enters, flags_after, same_place, same_tag}
 use Rattle.circuit_spec.specs.Network.{Name, Tag, Topology, Port, IsClass}
 use Rattle.circuit_spec.specs.declared.hops.Unit.{Unit as DataUnit}
 use Rattle.circuit_spec.specs.Steps.{Run}
-use Rattle.verdict.proofs.Stuck.{one_class}
+use Rattle.circuit_spec.proofs.ClassLemmas.{one_class}
+use Rattle.circuit_spec.proofs.Places.{same_places, place_itself}
+use Rattle.circuit_spec.proofs.Flags.{length-enters}
 use Rattle.hop_check.proofs.Walking.{entered}
 use Rattle.std.proofs.lemmas.List.{take_all, take_more, take_more_same, length-take-le}
 use Rattle.std.proofs.lemmas.Option.{slice_get_read, slice_get_within, get_or_from_slice_get}
@@ -41,28 +42,6 @@ tie_place x y =
     tie_then (slice_cmp nat_cmp x.class y.class) (tag_cmp x.label y.label)
     ∙ ap (λ (t : Bool). t && is_eq (tag_cmp x.label y.label)) (is_eq-slice_cmp x.class y.class)
     ∙ ap (λ (t : Bool). bytes_eq x.class y.class && t) (tie_tag x.label y.label)
-
-same_tags : (a b : Tag) → same_tag a b ≡ true → a ≡ b
-same_tags None None h = refl
-same_tags None (Some n) h = cc
-same_tags (Some m) None h = cc
-same_tags (Some m) (Some n) h = ap Some (grind (arith, nat_tests))
-
-tag_itself : (a : Tag) → same_tag a a ≡ true
-tag_itself None = refl
-tag_itself (Some n) = grind (arith, nat_tests)
-
-place : Name → Tag → PlaceName
-place class label = record { class = class; label = label }
-
-same_places : (x y : PlaceName) → same_place x y ≡ true → x ≡ y
-unfolding place
-same_places x y h =
-    let parts = and_parts (bytes_eq x.class y.class) (same_tag x.label y.label) h in
-    ap (λ (c : Name). place c x.label) ((bytes_eq-Decides x.class y.class).0 parts.0) ∙ ap (place y.class) (same_tags x.label y.label parts.1)
-
-place_itself : (x : PlaceName) → same_place x x ≡ true
-place_itself x = ap (λ (t : Bool). t && same_tag x.label x.label) ((bytes_eq-Decides x.class x.class).1 refl) ∙ tag_itself x.label
 
 -- being the same place goes both ways
 same_turned : (x y : PlaceName) → same_place x y ≡ same_place y x
@@ -119,10 +98,6 @@ visits_more before p at old now are counted more q =
 
 -- ---- the flags due
 
-pub length-flags_after : (before places : List PlaceName) → length (flags_after before places) ≡ length places
-length-flags_after before [] = refl
-length-flags_after before (p ∷ places) = ap suc (length-flags_after (before ++ p ∷ []) places)
-
 pub flag_at : (before places : List PlaceName) (k : ℕ) (p : PlaceName) → slice_get places k ≡ Some p → slice_get (flags_after before places) k ≡ Some (position (same_place p) (before ++ take k places))
 flag_at before [] k p at = absurd cc
 flag_at before (x ∷ places) zero p at =
@@ -130,11 +105,6 @@ flag_at before (x ∷ places) zero p at =
     ap Some (ap (λ (y : PlaceName). position (same_place y) before) is ∙ ap (position (same_place p)) (sym (append-nil before)))
 flag_at before (x ∷ places) (suc k) p at =
     flag_at (before ++ x ∷ []) places k p at ∙ ap (λ (ps : List PlaceName). Some (position (same_place p) ps)) (append_assoc before (x ∷ []) (take k places))
-
-pub length-enters : (T : Topology) (hops : List Hop) (places : List PlaceName) → Enters T hops places → length hops ≡ length places
-length-enters T [] places e = sym (ap length e)
-length-enters T (h ∷ hops) [] e = absurd e
-length-enters T (h ∷ hops) (p ∷ places) e = ap suc (length-enters T hops places e.1)
 
 -- the hop at a place enters the place that stands there
 pub enters_at : (T : Topology) (hops : List Hop) (places : List PlaceName) (k : ℕ) (h : Hop) → Enters T hops places → slice_get hops k ≡ Some h → (p : PlaceName) × (slice_get places k ≡ Some p) × EntersPlace T h p

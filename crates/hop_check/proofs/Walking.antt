@@ -1,17 +1,15 @@
 -- A unit on its way: runs that go on, the height of its stack, and where it is behind hops.
-use Rattle.std.proofs.Common.{◌≡◌, ◌≤◌, ◌+◌, ◌<◌, ℕ, List, [], ◌∷◌, ◌++◌, length, take, drop, get_or, refl, sym, ◌∙◌, ap, subst, arith, length-append}
+use Rattle.std.proofs.Common.{◌≡◌, ◌+◌, ◌<◌, ℕ, List, [], ◌∷◌, ◌++◌, length, take, drop, get_or, refl, sym, ◌∙◌, ap, subst, arith}
 use Rattle.std.proofs.lemmas.List.{take_more, drop_more, take-append-drop, length-take-le}
-use Rattle.nml_elements.specs.declared.elements.Element.{Element}
 use Rattle.nml_elements.specs.declared.elements.Element.TheVariants as element
-use Rattle.circuit_spec.specs.declared.hops.Frame.{Frame}
 use Rattle.circuit_spec.specs.declared.hops.Hop.{Hop}
 use Rattle.circuit_spec.specs.declared.hops.PlaceName.{PlaceName}
 use Rattle.circuit_spec.specs.declared.hops.Unit.{Unit as DataUnit}
 use Rattle.circuit_spec.specs.Faults.{IsKnown}
 use Rattle.circuit_spec.specs.Flags.{Enters}
-use Rattle.circuit_spec.specs.Network.{Topology, Port, IsOpen}
+use Rattle.circuit_spec.specs.Network.{Topology, IsOpen}
 use Rattle.circuit_spec.specs.Segments.{unit_in}
-use Rattle.circuit_spec.specs.Steps.{Rule, Run, Step, frame_of}
+use Rattle.circuit_spec.specs.Steps.{Run, Step}
 use Rattle.answer_spec.specs.declared.answer.Answer.{Answer}
 use Rattle.answer_spec.specs.Certificate.{AreCarried, first_place}
 use Rattle.verdict.specs.Faults.{HasStuckHop}
@@ -19,19 +17,6 @@ use Rattle.hop_check.specs.Arriving.{IsSomewhere}
 use Rattle.hop_check.specs.Carrying.{Leads}
 
 -- ---- the stack
-
-rule_height : (T : Topology) (h : Hop) (from to : Port) (e : Element) (old new : List Frame) → Rule T h from to e old new → length new ≤ length old + 1
-rule_height T h from to (element.Link l) old new r = omega (arith, ap length r.5)
-rule_height T h from to (element.Switching s) old new r = omega (arith, ap length r.4)
-rule_height T h from to (element.Adaptation a) old new r = omega (arith, ap length r.3, length-append old (frame_of a.function from h.from_label ∷ []))
-rule_height T h from to (element.Deadaptation a) old new r = omega (arith, ap length r.3, length-append new (frame_of a.function to h.to_label ∷ []))
-rule_height T h from to (element.Conversion c) old new r = omega (arith, ap length r.3)
-rule_height T h from to (element.Node n) old new r = absurd r
-rule_height T h from to (element.Port p) old new r = absurd r
-
--- a step puts one frame on at most
-pub step_height : (T : Topology) (u : DataUnit) (h : Hop) (v : DataUnit) → Step T u h v → length v.stack ≤ length u.stack + 1
-step_height T u h v s = rule_height T h s.from s.to s.placed.element u.stack v.stack s.rule
 
 -- ---- runs
 

@@ -5,13 +5,13 @@ use Rattle.std.specs.List.{find, position_or_len}
 use Rattle.std.specs.Str.{bytes_eq}
 use Rattle.std.proofs.lemmas.List.Folds.{find-set, find_at, find_past}
 use Rattle.std.proofs.lemmas.Option.{slice_get_within, get_or_from_slice_get}
+use Rattle.ml_base.proofs.Lists.{one_of_some}
+use Rattle.ml_base.proofs.Comparisons.{same_bytes}
 use Rattle.circuit_spec.specs.Network.{Name, names}
 use Rattle.circuit_spec.proofs.Among.{among_find}
-use Rattle.nml_inventory.proofs.Gets.{one_of_some}
 use Rattle.kept_table.specs.declared.gathered.TypeTests.{TypeTests}
 use Rattle.kept_table.specs.Table.{AreOnce}
 use Rattle.kept_table.specs.Gathering.{AddsSet, AddsSingle, AreByType, HasPlace, is_type, sets_of, singles_of, types_of}
-use Rattle.kept_table.proofs.Placing.{bytes_same}
 
 -- the label types stay where what stands at a place changes, and not its label type
 types_set : (all : List TypeTests) (n : ℕ) (at y : TypeTests) → slice_get all n ≡ Some at → y.labeltype ≡ at.labeltype → types_of (slice_set all n y) ≡ types_of all
@@ -28,16 +28,16 @@ pub record StandsAt (all : List TypeTests) (t : Name) (n : ℕ) (at : TypeTests)
 pub stands_at : (ids : List Name) (old all : List TypeTests) (t : Name) (n : ℕ) (at : TypeTests) → HasPlace ids old all t n → slice_get all n ≡ Some at → StandsAt all t n at
 stands_at ids old all t n at place here =
     let found : find (is_type t) all ≡ Some at = find_at (is_type t) all ∙ ap (slice_get all) (sym place.at) ∙ here in
-    record { here = here; found = found; typed = bytes_same at.labeltype t (among_find (is_type t) all at found).1 }
+    record { here = here; found = found; typed = same_bytes at.labeltype t (among_find (is_type t) all at found).1 }
 
 -- a search after the change
 changed : (all : List TypeTests) (t u : Name) (n : ℕ) (at y : TypeTests) (b : Bool) → n ≡ position_or_len (is_type t) all → StandsAt all t n at → y.labeltype ≡ t → bytes_eq t u ≡ b → find (is_type u) (slice_set all n y) ≡ cond b (Some y) (find (is_type u) all)
 changed all t u n at y true place stands typed e =
-    subst (λ (w : Name). find (is_type w) (slice_set all n y) ≡ Some y) (bytes_same t u e)
-    (find-set (is_type t) all n y place (slice_get_within all n at stands.here) (ap (λ (w : Name). bytes_eq w t) typed ∙ ap (λ (w : Name). bytes_eq w t) (bytes_same t u e) ∙ back))
+    subst (λ (w : Name). find (is_type w) (slice_set all n y) ≡ Some y) (same_bytes t u e)
+    (find-set (is_type t) all n y place (slice_get_within all n at stands.here) (ap (λ (w : Name). bytes_eq w t) typed ∙ ap (λ (w : Name). bytes_eq w t) (same_bytes t u e) ∙ back))
   where
     back : bytes_eq u t ≡ true
-    back = ap (λ (w : Name). bytes_eq w t) (sym (bytes_same t u e)) ∙ ap (bytes_eq t) (bytes_same t u e) ∙ e
+    back = ap (λ (w : Name). bytes_eq w t) (sym (same_bytes t u e)) ∙ ap (bytes_eq t) (same_bytes t u e) ∙ e
 changed all t u n at y false place stands typed e =
     find_past (is_type u) all n y at
     (ap (is_type u) (get_or_from_slice_get all n at at stands.here) ∙ ap (λ (w : Name). bytes_eq w u) stands.typed ∙ e)
@@ -46,7 +46,7 @@ changed all t u n at y false place stands typed e =
 -- the list that a search gives after the change
 listed : {A : Type 0} (f : TypeTests → List A) (all : List TypeTests) (t u : Name) (n : ℕ) (at y : TypeTests) (more : List A) (b : Bool) → n ≡ position_or_len (is_type t) all → StandsAt all t n at → y.labeltype ≡ t → f y ≡ f at ++ more → bytes_eq t u ≡ b → unwrap_or (option_map f (find (is_type u) (slice_set all n y))) [] ≡ unwrap_or (option_map f (find (is_type u) all)) [] ++ cond b more []
 listed f all t u n at y more true place stands typed grown e =
-    let before : find (is_type u) all ≡ Some at = ap (λ (w : Name). find (is_type w) all) (sym (bytes_same t u e)) ∙ stands.found in
+    let before : find (is_type u) all ≡ Some at = ap (λ (w : Name). find (is_type w) all) (sym (same_bytes t u e)) ∙ stands.found in
     ap (λ (o : Option TypeTests). unwrap_or (option_map f o) []) (changed all t u n at y true place stands typed e)
     ∙ grown
     ∙ ap (λ (o : Option TypeTests). unwrap_or (option_map f o) [] ++ more) (sym before)

@@ -6,8 +6,9 @@ use Rattle.std.specs.Str.{bytes_eq}
 use Rattle.std.proofs.lemmas.Bool.{cases_lt, or_cases}
 use Rattle.label_sets.specs.Ranges.{has}
 use Rattle.label_atoms.specs.Pieces.{IsAmong}
-use Rattle.label_atoms.proofs.Cuts.{among_left, among_right}
 use Rattle.ml_base.specs.declared.numbers.Wish.{Wish}
+use Rattle.ml_base.proofs.Lists.{among_filter_map, contains_among, one_of_some, among_left, among_right, among_place}
+use Rattle.ml_base.proofs.Comparisons.{bytes_itself, same_bytes}
 use Rattle.nml_elements.specs.declared.elements.Labels.{Labels}
 use Rattle.nml_elements.specs.declared.elements.Labels.TheVariants.{Unlabelled, Of}
 use Rattle.nml_elements.specs.declared.elements.LinkE.{LinkE}
@@ -16,15 +17,11 @@ use Rattle.circuit_spec.specs.declared.hops.Request.{Request}
 use Rattle.circuit_spec.specs.Network.{Name, Topology, Placed, Port, IsClass, IsInClassSet, elements_of, label_type, names, ports}
 use Rattle.circuit_spec.specs.Kept.{IsStated, StatesAt, link_at, links}
 use Rattle.circuit_spec.proofs.Among.{IsAmong as IsItem}
-use Rattle.circuit_spec.proofs.Lists.{among_filter_map, contains_among}
 use Rattle.circuit_spec.proofs.ClassLemmas.{class_of_itself}
 use Rattle.nml_inventory.specs.Relations.{AreClassLabels}
-use Rattle.nml_inventory.proofs.ClassNumbers.{among_place}
-use Rattle.nml_inventory.proofs.Gets.{one_of_some}
 use Rattle.kept_table.specs.declared.gathered.TypeTests.{TypeTests}
 use Rattle.kept_table.specs.Table.{IsTypeOfSome}
 use Rattle.kept_table.specs.Gathering.{AddsClassAt, AddsLabels, AddsLinkAt, AddsSet, AddsSingle, AddsStated, HasSet, IsGathered, IsSetOfType, link_numbered, sets_of, singles_of, types_of}
-use Rattle.kept_table.proofs.Placing.{bytes_same, same_bytes}
 
 -- nothing is gathered at first
 pub gathered_none : (T : Topology) (r : Request) → IsGathered T r 0 0 0 []
@@ -40,14 +37,14 @@ gathered_none T r = record {
 
 -- what is in a list that one item was put behind, where the label type is that of the item
 split_more : {A : Type 0} (xs : List A) (y x : A) (t u : Name) (b : Bool) → bytes_eq t u ≡ b → IsAmong (xs ++ cond b (y ∷ []) []) x → IsAmong xs x ⊎ ((x ≡ y) × (t ≡ u))
-split_more [] y x t u true e (inl same) = inr (same, bytes_same t u e)
+split_more [] y x t u true e (inl same) = inr (same, same_bytes t u e)
 split_more [] y x t u true e (inr none) = absurd none
 split_more [] y x t u false e none = absurd none
 split_more (z ∷ zs) y x t u b e (inl same) = inl (inl same)
 split_more (z ∷ zs) y x t u b e (inr later) = elim (split_more zs y x t u b e later) [ inl a ↦ inl (inr a) | inr s ↦ inr s ]
 
 behind : {A : Type 0} (xs : List A) (y : A) (t : Name) → IsAmong (xs ++ cond (bytes_eq t t) (y ∷ []) []) y
-behind {A} xs y t = subst (λ b. IsAmong (xs ++ cond b (y ∷ []) []) y) (sym (same_bytes t)) (among_right xs (y ∷ []) y (inl refl))
+behind {A} xs y t = subst (λ b. IsAmong (xs ++ cond b (y ∷ []) []) y) (sym (bytes_itself t)) (among_right xs (y ∷ []) y (inl refl))
 
 -- a set of its label type has been put in
 pub set_there : (old new : List TypeTests) (t : Name) (set : List (ℕ × ℕ)) → AddsSet old t set new → IsAmong (sets_of new t) set
@@ -64,7 +61,7 @@ types_grown : (T : Topology) (t u : Name) (b : Bool) → bytes_eq t u ≡ b → 
 types_grown T t u b e added before was h =
     elim (or_cases before b h) [
       | inl there ↦ was there
-      | inr here ↦ subst (IsTypeOfSome T) (bytes_same t u (e ∙ here)) added
+      | inr here ↦ subst (IsTypeOfSome T) (same_bytes t u (e ∙ here)) added
     ]
 
 pub gathered_set : (T : Topology) (r : Request) (c k e : ℕ) (old new : List TypeTests) (t : Name) (set : List (ℕ × ℕ)) → IsGathered T r c k e old → AddsSet old t set new → IsSetOfType T t set → IsGathered T r c k e new

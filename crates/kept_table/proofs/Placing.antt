@@ -9,6 +9,8 @@ use Rattle.std.proofs.lemmas.Bool.{eqb-true}
 use Rattle.std.proofs.lemmas.List.{length-map, map-append}
 use Rattle.std.proofs.lemmas.List.Folds.{find-append, list_any-append, position_or_len_push}
 use Rattle.std.proofs.lemmas.Slice.Eq.{bytes_eq-Decides}
+use Rattle.std.proofs.Math.Bool.{or-false}
+use Rattle.ml_base.proofs.Comparisons.{bytes_itself, same_bytes}
 use Rattle.circuit_spec.specs.Network.{Name, names}
 use Rattle.nml_inventory.specs.Numbers.{is_name}
 use Rattle.nml_inventory.proofs.Names.{place_by}
@@ -23,16 +25,6 @@ type_in tests = tests.labeltype
 abbrev pub fresh : Name → TypeTests
 fresh t = record { labeltype = t; sets = []; singles = [] }
 
-pub same_bytes : (t : Name) → bytes_eq t t ≡ true
-same_bytes t = (bytes_eq-Decides t t).1 refl
-
-pub bytes_same : (a b : Name) → bytes_eq a b ≡ true → a ≡ b
-bytes_same a b e = (bytes_eq-Decides a b).0 e
-
-pub or_none : (b : Bool) → (b || false) ≡ b
-or_none true = refl
-or_none false = refl
-
 -- Searches by a key that is as the label type
 
 pub any_by : {A : Type 0} (key : A → Name) (test : A → Bool) (t : Name) → ((x : A) → test x ≡ is_name t (key x)) → (xs : List A) → list_any test xs ≡ names (map key xs) t
@@ -46,9 +38,9 @@ place_in ids all t e = ap (position_or_len (is_name t)) e ∙ sym (place_by type
 -- A label type that is there
 
 known_name : (ids : List Name) (t u : Name) (b : Bool) → names ids t ≡ true → bytes_eq t u ≡ b → names ids u ≡ (names ids u || b)
-known_name ids t u false there e = sym (or_none (names ids u))
+known_name ids t u false there e = sym (or-false (names ids u))
 known_name ids t u true there e =
-    let here : names ids u ≡ true = ap (names ids) (sym (bytes_same t u e)) ∙ there in
+    let here : names ids u ≡ true = ap (names ids) (sym (same_bytes t u e)) ∙ there in
     here ∙ sym (ap (λ b. b || true) here)
 
 pub place_there : (ids : List Name) (all : List TypeTests) (t : Name) (n : ℕ) → AreByType ids all → names ids t ≡ true → n ≡ position_or_len (is_name t) ids → n < length ids → HasPlace ids all all t n
@@ -75,14 +67,14 @@ once_pushed (x ∷ ids) t once none = (not_behind, once_pushed ids t once.1 (lat
 
     turned : (b c : Bool) → bytes_eq x t ≡ b → bytes_eq t x ≡ c → (b || names ids t) ≡ false → c ≡ false
     turned true c e f h = cc
-    turned false true e f h = absurd (cc (e, (bytes_eq-Decides x t).1 (sym (bytes_same t x f))))
+    turned false true e f h = absurd (cc (e, (bytes_eq-Decides x t).1 (sym (same_bytes t x f))))
     turned false false e f h = refl
 
     not_behind : names (ids ++ t ∷ []) x ≡ false
     not_behind =
         list_any-append (λ y. bytes_eq y x) ids (t ∷ [])
         ∙ ap (λ b. b || (bytes_eq t x || false)) once.0
-        ∙ or_none (bytes_eq t x)
+        ∙ or-false (bytes_eq t x)
         ∙ turned (bytes_eq x t) (bytes_eq t x) refl refl none
 
 pushed_place : (p : TypeTests → Bool) (all : List TypeTests) (y : TypeTests) → p y ≡ true → position_or_len p (all ++ y ∷ []) ≡ position_or_len p all
@@ -115,11 +107,11 @@ place_new ids more all new t n by_type behind none at within put =
         types_are = types_more;
         once = subst AreOnce (sym (map-append type_in all (fresh t ∷ []))) (once_pushed (types_of all) t by_type.once (ap (λ (xs : List Name). names xs t) (sym by_type.types_are) ∙ none));
       };
-      at = at ∙ place_in ids all t by_type.types_are ∙ sym (pushed_place (is_type t) all (fresh t) (same_bytes t));
+      at = at ∙ place_in ids all t by_type.types_are ∙ sym (pushed_place (is_type t) all (fresh t) (bytes_itself t));
       within = omega (arith, ap length types_more, length-map (all ++ fresh t ∷ []) type_in);
       sets = λ u. found_fresh (λ (x : TypeTests). x.sets) all t u refl;
       singles = λ u. found_fresh (λ (x : TypeTests). x.singles) all t u refl;
-      types_more = λ u. ap (λ (xs : List Name). names xs u) (map-append type_in all (fresh t ∷ [])) ∙ list_any-append (λ y. bytes_eq y u) (types_of all) (t ∷ []) ∙ ap (λ b. names (types_of all) u || b) (or_none (bytes_eq t u));
+      types_more = λ u. ap (λ (xs : List Name). names xs u) (map-append type_in all (fresh t ∷ [])) ∙ list_any-append (λ y. bytes_eq y u) (types_of all) (t ∷ []) ∙ ap (λ b. names (types_of all) u || b) (or-false (bytes_eq t u));
     })
   where
     types_more : more ≡ types_of (all ++ fresh t ∷ [])

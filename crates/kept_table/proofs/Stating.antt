@@ -4,16 +4,16 @@ use Rattle.std.specs.Prelude.{option_map, slice_get}
 use Rattle.ml_base.specs.declared.numbers.PortNo.{PortNo}
 use Rattle.ml_base.specs.declared.numbers.Wish.{Wish}
 use Rattle.ml_base.specs.declared.numbers.Wish.TheVariants.{Value}
+use Rattle.ml_base.proofs.Lists.{one_of_some}
 use Rattle.nml_elements.specs.declared.elements.Labels.{Labels}
 use Rattle.circuit_spec.specs.Network.{Name, Topology, Port, IsClass, label_type, ports}
+use Rattle.circuit_spec.proofs.ClassLemmas.{one_class}
 use Rattle.nml_inventory.specs.Numbers.{port_number}
 use Rattle.nml_inventory.specs.Relations.{AreClassLabels}
-use Rattle.nml_inventory.proofs.ClassNumbers.{port_id}
-use Rattle.nml_inventory.proofs.Gets.{one_of_some}
+use Rattle.nml_inventory.proofs.ClassNumbers.{port_id, no_class}
 use Rattle.nml_inventory.proofs.PortNumbers.{number_found}
 use Rattle.kept_table.specs.declared.gathered.TypeTests.{TypeTests}
 use Rattle.kept_table.specs.Gathering.{AddsSingle, AddsStated}
-use Rattle.kept_table.proofs.Known.{no_class, one_class}
 
 -- the number in an answer
 pub number_none : (o : Option ℕ) → ◌≡◌ {A = Option PortNo} (option_map (λ n. record { 0 = n }) o) None → o ≡ None

@@ -1,10 +1,11 @@
 -- What is gathered of a label type tells labels apart just as the classes, the links and the request do.
-use Rattle.std.proofs.Common.{◌≡◌, ◌↔◌, ℕ, zero, suc, inl, inr, List, [], ◌∷◌, Bool, true, false, Option, None, Some, length, eqb, refl, sym, ◌∙◌, ap, subst, arith}
+use Rattle.std.proofs.Common.{◌≡◌, ◌↔◌, ℕ, inl, inr, List, [], ◌∷◌, Bool, true, false, Some, length, eqb, refl, sym, ◌∙◌, ap, arith}
 use Rattle.std.specs.Prelude.{slice_get}
 use Rattle.std.specs.Option.{option_and_then}
-use Rattle.std.specs.List.{AllByRecursion, filter_map, cons_option, list_any}
-use Rattle.std.proofs.lemmas.Bool.{eq-eqb, eqb-true, or_cases, or_left, or_right}
+use Rattle.std.specs.List.{AllByRecursion}
+use Rattle.std.proofs.lemmas.Bool.{eq-eqb, eqb-true}
 use Rattle.std.proofs.lemmas.Option.{slice_get-get_or, slice_get_within}
+use Rattle.ml_base.proofs.Lists.{kept_from, all_among, among_any, any_among}
 use Rattle.label_sets.specs.Ranges.{has}
 use Rattle.label_atoms.specs.Alike as atoms
 use Rattle.label_atoms.specs.Alike.{AreTogether, in_some}
@@ -12,8 +13,9 @@ use Rattle.label_atoms.specs.Pieces.{IsAmong}
 use Rattle.nml_elements.specs.declared.elements.LinkE.{LinkE}
 use Rattle.nml_elements.specs.Labels.{is_among}
 use Rattle.circuit_spec.specs.declared.hops.Request.{Request}
-use Rattle.circuit_spec.specs.Network.{Name, Topology, Placed, Port, First, IsInClassSet, Linked, elements_of, ports}
+use Rattle.circuit_spec.specs.Network.{Name, Topology, Placed, Port, IsInClassSet, Linked, elements_of, ports}
 use Rattle.circuit_spec.specs.Kept.{AreAlike, IsClassOfType, IsInSomeSet, IsKept, IsKeeper, IsLinkOfType, IsStated, link_at, links}
+use Rattle.circuit_spec.proofs.Among.{first_stands}
 use Rattle.kept_table.specs.declared.gathered.TypeTests.{TypeTests}
 use Rattle.kept_table.specs.Gathering.{HasSet, IsGathered, IsSetOfType, sets_of, singles_of}
 
@@ -23,43 +25,9 @@ IsAll T r all = IsGathered T r (length (ports T)) (length (elements_of T)) 2 all
 
 -- Lists
 
-all_at : {A : Type 0} (P : A → Type 0) (xs : List A) (x : A) → AllByRecursion P xs → IsAmong xs x → P x
-all_at P [] x h among = absurd among
-all_at P (y ∷ ys) x h (inl e) = subst P (sym e) h.0
-all_at P (y ∷ ys) x h (inr later) = all_at P ys x h.1 later
-
 all_from : {A : Type 0} (P : A → Type 0) (xs : List A) → ((x : A) → IsAmong xs x → P x) → AllByRecursion P xs
 all_from P [] h = tt
 all_from P (x ∷ xs) h = (h x (inl refl), all_from P xs (λ y among. h y (inr among)))
-
-some_item : {A : Type 0} (test : A → Bool) (xs : List A) → list_any test xs ≡ true → (x : A) × IsAmong xs x × (test x ≡ true)
-some_item test [] h = cc
-some_item test (x ∷ xs) h =
-    elim (or_cases (test x) (list_any test xs) h) [
-      | inl here ↦ (x, inl refl, here)
-      | inr later ↦ let s = some_item test xs later in (s.0, inr s.1, s.2)
-    ]
-
-item_some : {A : Type 0} (test : A → Bool) (xs : List A) (x : A) → IsAmong xs x → test x ≡ true → list_any test xs ≡ true
-item_some test [] x among t = absurd among
-item_some test (y ∷ ys) x (inl e) t = or_left (test y) (list_any test ys) (ap test (sym e) ∙ t)
-item_some test (y ∷ ys) x (inr later) t = or_right (test y) (list_any test ys) (item_some test ys x later t)
-
--- where the first item of a list stands
-first_stands : {A : Type 0} (P : A → Type 0) (xs : List A) (x : A) → First P xs x → (k : ℕ) × (slice_get xs k ≡ Some x)
-first_stands P [] x h = absurd h
-first_stands P (y ∷ ys) x (inl (p, e)) = (0, ap Some (sym e))
-first_stands P (y ∷ ys) x (inr (other, later)) = let f = first_stands P ys x later in (suc f.0, f.1)
-
-kept_option : {A B : Type 0} (h : A → Option B) (x : A) (xs : List A) (o : Option B) (n : ℕ) (y : B) → h x ≡ o → ((m : ℕ) → slice_get (filter_map h xs) m ≡ Some y → (k : ℕ) × (z : A) × (slice_get xs k ≡ Some z) × (h z ≡ Some y)) → slice_get (cons_option o (filter_map h xs)) n ≡ Some y → (k : ℕ) × (z : A) × (slice_get (x ∷ xs) k ≡ Some z) × (h z ≡ Some y)
-kept_option h x xs None n y e later at = let l = later n at in (suc l.0, l.1, l.2, l.3)
-kept_option h x xs (Some w) zero y e later at = (0, x, refl, e ∙ at)
-kept_option h x xs (Some w) (suc n) y e later at = let l = later n at in (suc l.0, l.1, l.2, l.3)
-
--- what was kept of a list stands somewhere in it
-kept_from : {A B : Type 0} (h : A → Option B) (xs : List A) (n : ℕ) (y : B) → slice_get (filter_map h xs) n ≡ Some y → (k : ℕ) × (z : A) × (slice_get xs k ≡ Some z) × (h z ≡ Some y)
-kept_from h [] n y at = cc
-kept_from h (x ∷ xs) n y at = kept_option h x xs (h x) n y refl (λ m. kept_from h xs m y) at
 
 -- The sets of classes and links
 
@@ -81,14 +49,14 @@ stated_single T r all u n g (inr to) = g.to_single u n (omega arith) to
 -- A label in a set
 
 pub some_to : (T : Topology) (r : Request) (all : List TypeTests) (u : Name) (n : ℕ) → IsAll T r all → in_some (sets_of all u) n ≡ true → IsInSomeSet T u n
-some_to T r all u n g h = let s = some_item (λ set. has set n) (sets_of all u) h in by s.0 s.2 (g.only_sets u s.0 s.1)
+some_to T r all u n g h = let s = among_any (λ set. has set n) (sets_of all u) h in by s.0 s.2 (g.only_sets u s.0 s.1)
   where
     by : (set : List (ℕ × ℕ)) → has set n ≡ true → IsSetOfType T u set → IsInSomeSet T u n
     by set here (inl (class, is, tells)) = inl (class, is, (tells n).0 here)
     by set here (inr (link, is, tells)) = inr (link, is, (tells n).0 here)
 
 has_some : (all : List TypeTests) (u : Name) (P : ℕ → Type 0) (n : ℕ) → HasSet all u P → P n → in_some (sets_of all u) n ≡ true
-has_some all u P n (set, among, tells) p = item_some (λ s. has s n) (sets_of all u) set among ((tells n).1 p)
+has_some all u P n (set, among, tells) p = any_among (λ s. has s n) (sets_of all u) set among ((tells n).1 p)
 
 pub some_from : (T : Topology) (r : Request) (all : List TypeTests) (u : Name) (n : ℕ) → IsAll T r all → IsInSomeSet T u n → in_some (sets_of all u) n ≡ true
 some_from T r all u n g (inl (class, is, here)) = has_some all u (IsInClassSet T class) n (class_set T r all u class g is) here
@@ -98,7 +66,7 @@ some_from T r all u n g (inr (link, is, here)) = has_some all u (λ m. is_among 
 
 same_in : (all : List TypeTests) (u : Name) (P : ℕ → Type 0) (m n : ℕ) → AreTogether (sets_of all u) m n → HasSet all u P → P m ↔ P n
 same_in all u P m n together (set, among, tells) =
-    let e : has set m ≡ has set n = all_at (λ (s : List (ℕ × ℕ)). has s m ≡ has s n) (sets_of all u) set together among in
+    let e : has set m ≡ has set n = all_among (λ (s : List (ℕ × ℕ)). has s m ≡ has s n) (sets_of all u) set together among in
     ((λ p. (tells n).0 (sym e ∙ (tells m).1 p)), (λ p. (tells m).0 (e ∙ (tells n).1 p)))
 
 same_number : (m n k : ℕ) → eqb m k ≡ eqb n k → (m ≡ k) ↔ (n ≡ k)
@@ -108,7 +76,7 @@ pub alike_to : (T : Topology) (r : Request) (all : List TypeTests) (u : Name) (m
 alike_to T r all u m n g a = record {
   classes = λ class is. same_in all u (IsInClassSet T class) m n a.together (class_set T r all u class g is);
   links = λ link is. same_in all u (λ k. is_among link.labels k ≡ true) m n a.together (link_set T r all u link g is);
-  stated = λ k s. same_number m n k (all_at (λ (single : ℕ). eqb m single ≡ eqb n single) (singles_of all u) k a.stated (stated_single T r all u k g s));
+  stated = λ k s. same_number m n k (all_among (λ (single : ℕ). eqb m single ≡ eqb n single) (singles_of all u) k a.stated (stated_single T r all u k g s));
 }
 
 both_true : (a b : Bool) → (a ≡ true) ↔ (b ≡ true) → a ≡ b

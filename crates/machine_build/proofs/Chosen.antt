@@ -11,19 +11,21 @@ use Rattle.ml_base.specs.declared.numbers.PortNo.{PortNo}
 use Rattle.ml_base.specs.declared.numbers.StateNo.{StateNo}
 use Rattle.ml_base.specs.declared.numbers.Wish.{Wish}
 use Rattle.ml_base.specs.declared.numbers.Wish.TheVariants.{Any, Value}
+use Rattle.ml_base.proofs.Lists.{one_of_some, some_at, same_at, at_left, contains_at}
+use Rattle.ml_base.proofs.Comparisons.{below_cases, same_state}
 use Rattle.circuit_spec.specs.declared.hops.PlaceName.{PlaceName}
 use Rattle.circuit_spec.specs.Network.{Name, Tag, Topology, Port, IsClass, IsPlace, ports}
 use Rattle.circuit_spec.specs.Steps.{IsWished}
-use Rattle.circuit_spec.proofs.ClassLemmas.{class_of_itself}
+use Rattle.circuit_spec.proofs.ClassLemmas.{class_of_itself, one_class}
 use Rattle.circuit_spec.proofs.Lists.{none_found}
+use Rattle.circuit_spec.proofs.Types.{port_of_class}
 use Rattle.nml_inventory.specs.Numbers.{port_number}
 use Rattle.nml_inventory.proofs.Names.{find_number}
 use Rattle.nml_inventory.proofs.PortNumbers.{number_found}
 use Rattle.open_places.specs.declared.span.Span.{Span}
 use Rattle.machine_build.specs.Built.{AreAllowed, IsAllowedState}
 use Rattle.machine_build.specs.Ways.{AreFitting, AreOpen, AreStatesOf, Lets, is_any, label_of}
-use Rattle.machine_build.proofs.Items.{at_cases, at_contains, at_left, at_right, contains_at, number_cases, one_of_some, same_at, some_at}
-use Rattle.machine_build.proofs.Named.{port_of_class, same_class}
+use Rattle.machine_build.proofs.Items.{at_cases, at_contains, at_right}
 
 -- The states of a span, one by one
 
@@ -36,15 +38,12 @@ no_states first states none state = (
   (λ b. absurd (omega (arith, b.0, b.1))),
 )
 
-same_state : (a b : StateNo) → a.0 ≡ b.0 → a ≡ b
-same_state a b e = let make : ℕ → StateNo = λ n. record { 0 = n } in ap make e
-
 only_one : (x : StateNo) (k : ℕ) (y : StateNo) → slice_get (x ∷ []) k ≡ Some y → x ≡ y
 only_one x zero y at = one_of_some at
 only_one x (suc k) y at = absurd (cc)
 
 pub state_more : (first n : ℕ) (states new : List StateNo) → first ≤ n → new ≡ states ++ record { 0 = n } ∷ [] → AreUpto first n states → AreUpto first (n + 1) new
-state_more first n states new from pushed are state = ((λ c. forth (at_contains new state c)), (λ b. back b.0 (number_cases state.0 n b.1)))
+state_more first n states new from pushed are state = ((λ c. forth (at_contains new state c)), (λ b. back b.0 (below_cases state.0 n b.1)))
   where
     last : StateNo
     last = record { 0 = n }
@@ -110,7 +109,7 @@ all_allowed T places id wish number span states opened port fit are state = ((λ
         let x = some_at places state.0 (omega (arith, b.1, fit.within)) in
         let f = (fit.are state.0 x.0 x.1).1 b in
         let o = opened state.0 x.0 x.1 in
-        let same : o.0 ≡ fit.class = same_class T fit.class.id o.0 fit.class (subst (λ i. IsClass T i o.0) (sym o.1 ∙ f.0) o.2.is_class) (class_of_itself T id fit.class class_is) in
+        let same : o.0 ≡ fit.class = one_class T fit.class.id o.0 fit.class (subst (λ i. IsClass T i o.0) (sym o.1 ∙ f.0) o.2.is_class) (class_of_itself T id fit.class class_is) in
         record {
           place = x.0;
           class = fit.class;
@@ -121,5 +120,5 @@ all_allowed T places id wish number span states opened port fit are state = ((λ
 
     back : IsAllowedState T places id wish state → (span.first ≤ state.0) × (state.0 < span.end)
     back a =
-        let same : a.class ≡ fit.class = same_class T id a.class fit.class a.allowed.place.is_class class_is in
+        let same : a.class ≡ fit.class = one_class T id a.class fit.class a.allowed.place.is_class class_is in
         (fit.are state.0 a.place a.is_state).0 (a.named ∙ ap (λ (c : Port). c.id) same, wished_lets wish a.place.label a.allowed.wished)

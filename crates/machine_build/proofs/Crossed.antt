@@ -3,6 +3,7 @@ use Rattle.std.proofs.Common.{◌≡◌, ℕ, ◌+◌, ◌<◌, ◌≤◌, List,
 use Rattle.std.specs.Prelude.{slice_get}
 use Rattle.std.proofs.lemmas.Option.{slice_get_within}
 use Rattle.ml_base.specs.declared.numbers.PortNo.{PortNo}
+use Rattle.ml_base.proofs.Lists.{one_of_some, some_at, same_at}
 use Rattle.circuit_spec.specs.declared.hops.PlaceName.{PlaceName}
 use Rattle.circuit_spec.specs.Network.{Tag, Topology, Port, IsClass, Linked, ports}
 use Rattle.circuit_spec.proofs.ClassLemmas.{First-unique}
@@ -15,11 +16,10 @@ use Rattle.machine_build.specs.Adding.{Adds, Between}
 use Rattle.machine_build.specs.Frames.{HasClass}
 use Rattle.machine_build.specs.Ways.{AreFitting, GoesFrom, HasLabel, IsEnd, IsFarPort, Lets, Way, is_far}
 use Rattle.machine_build.proofs.Growing.{adds_first, adds_next, adds_same}
-use Rattle.machine_build.proofs.Items.{one_of_some, same_at, some_at}
 use Rattle.machine_build.proofs.Listed.{at_listed, listed_at, listed_once}
 
-pub one_class : (T : Topology) (number : ℕ) (class : Port) → HasClass T number class → (p other : Port) → slice_get (ports T) number ≡ Some p → IsClass T p.id other → other ≡ class
-one_class T number class has p other at is =
+pub numbered_class : (T : Topology) (number : ℕ) (class : Port) → HasClass T number class → (p other : Port) → slice_get (ports T) number ≡ Some p → IsClass T p.id other → other ≡ class
+numbered_class T number class has p other at is =
     let same : p ≡ has.port = same_at (ports T) number p has.port at has.port_at in
     First-unique (λ q. Linked T has.port.id q.id) (ports T) other class (subst (λ (x : Port). IsClass T x.id other) same is) has.is_class
 
@@ -41,7 +41,7 @@ module _ (T : Topology) (places : List PlaceName) (port : PortNo) (any : Bool) (
   -- and the other way round
   pub in_span : (end : End) → end.port ≡ port → (p : Port) (place : PlaceName) → IsEnd T places end p place → Lets any label place.label → (span.first ≤ end.state.0) × (end.state.0 < span.end)
   in_span end at p place is lets =
-      let same : is.class ≡ fit.class = one_class T port.0 fit.class fit.has_class p is.class (subst (λ (q : PortNo). slice_get (ports T) q.0 ≡ Some p) at is.port_at) is.is_class in
+      let same : is.class ≡ fit.class = numbered_class T port.0 fit.class fit.has_class p is.class (subst (λ (q : PortNo). slice_get (ports T) q.0 ≡ Some p) at is.port_at) is.is_class in
       (fit.are end.state.0 place is.place_at).0 (is.named ∙ ap (λ (x : Port). x.id) same, lets)
 
   pub end_is : (end : End) → end.port ≡ port → end ≡ record { port = port; state = record { 0 = end.state.0 } }

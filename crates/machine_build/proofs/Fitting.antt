@@ -6,6 +6,7 @@ use Rattle.std.proofs.lemmas.Option.{slice_get_within}
 use Rattle.std.proofs.lemmas.Map.Keys.{IsDistinct-from_sorted}
 use Rattle.std.specs.Ordering.{eq_by_cmp}
 use Rattle.std.proofs.lemmas.Cmp.{eq_by_cmp_equiv}
+use Rattle.ml_base.proofs.Lists.{same_at}
 use Rattle.open_places.proofs.Ordered.{place_total}
 use Rattle.circuit_spec.specs.declared.hops.PlaceName.{PlaceName}
 use Rattle.circuit_spec.specs.Network.{Name, Tag, Topology}
@@ -15,7 +16,7 @@ use Rattle.open_places.specs.Places.{IsRising, PlacesValue, place_cmp}
 use Rattle.open_places.specs.Spans.{IsLabelled}
 use Rattle.machine_build.specs.Frames.{HasClass}
 use Rattle.machine_build.specs.Ways.{AreFitting, HaveSpans, Lets}
-use Rattle.machine_build.proofs.Items.{distinct_once, same_at}
+use Rattle.machine_build.proofs.Items.{distinct_once}
 
 same_cmp : (x : PlaceName) → eq_by_cmp place_cmp x x ≡ true
 same_cmp x = (eq_by_cmp_equiv place_total).refl x

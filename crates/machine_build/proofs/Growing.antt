@@ -1,17 +1,19 @@
 -- Lists of moves that grow, one addition after another.
 use Rattle.std.proofs.Common.{◌≡◌, ℕ, zero, suc, ◌+◌, ◌≤◌, ◌⊎◌, inl, inr, List, [], ◌∷◌, ◌++◌, Some, length, refl, sym, ◌∙◌, ap, subst, arith}
 use Rattle.std.specs.Prelude.{slice_get}
-use Rattle.std.proofs.lemmas.List.{append_assoc}
+use Rattle.std.proofs.lemmas.List.{append_assoc, append-nil}
+use Rattle.ml_base.proofs.Lists.{one_of_some, at_left}
+use Rattle.ml_base.proofs.Comparisons.{below_cases}
 use Rattle.machine_build.specs.declared.ways.End.{End}
 use Rattle.machine_build.specs.declared.ways.Move.{Move}
 use Rattle.machine_build.specs.Adding.{Adds, Between, HasWay}
 use Rattle.machine_build.specs.Ways.{Way, way_of}
-use Rattle.machine_build.proofs.Items.{IsBehind, at_cases, at_left, at_right, number_cases, one_of_some, then_none}
+use Rattle.machine_build.proofs.Items.{IsBehind, at_cases, at_right}
 
 pub adds_none : (R : Way → Type 0) (S : Move → Type 0) (xs : List Move) → ((w : Way) → R w → ⊥) → Adds R S xs xs
 adds_none R S xs none = record {
   more = [];
-  whole = sym (then_none xs);
+  whole = sym (append-nil xs);
   all = λ w r. absurd (none w r);
   only = λ k m at. absurd (cc);
   done = λ k m at. absurd (cc);
@@ -77,7 +79,7 @@ pub adds_first : (F : ℕ → Way → Type 0) (S : Move → Type 0) (low : ℕ) 
 adds_first F S low xs = adds_none (Between low low F) S xs (λ w r. omega (arith, r.1, r.2))
 
 between_cases : (F : ℕ → Way → Type 0) (low n : ℕ) (w : Way) → Between low (n + 1) F w → Between low n F w ⊎ F n w
-between_cases F low n w b = elim (number_cases b.0 n b.2) as (λ v. Between low n F w ⊎ F n w) [
+between_cases F low n w b = elim (below_cases b.0 n b.2) as (λ v. Between low n F w ⊎ F n w) [
   | inl l ↦ inl (b.0, b.1, l, b.3)
   | inr e ↦ inr (subst (λ k. F k w) e b.3)
 ]

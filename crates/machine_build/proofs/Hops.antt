@@ -2,6 +2,7 @@
 use Rattle.std.proofs.Common.{◌≡◌, ℕ, List, [], Option, Some, map, refl, sym, ◌∙◌, ap, subst, Contains}
 use Rattle.std.specs.Prelude.{slice_get, unwrap_or, option_map}
 use Rattle.ml_base.specs.declared.numbers.StateNo.{StateNo}
+use Rattle.ml_base.proofs.Lists.{same_at, place_among, among_place}
 use Rattle.circuit_spec.specs.declared.hops.Frame.{Frame}
 use Rattle.circuit_spec.specs.declared.hops.Hop.{Hop}
 use Rattle.circuit_spec.specs.declared.hops.PlaceName.{PlaceName}
@@ -9,7 +10,7 @@ use Rattle.circuit_spec.specs.Faults.{duplicate_ids}
 use Rattle.circuit_spec.specs.Network.{Topology, Placed, Port, IsClass, IsPlace, elements_of, element_named, id_of, ports}
 use Rattle.circuit_spec.specs.Segments.{unit_in}
 use Rattle.circuit_spec.specs.Steps.{Rule, Step, cost_of, cost_of_element}
-use Rattle.circuit_spec.proofs.ClassLemmas.{class_of_itself}
+use Rattle.circuit_spec.proofs.ClassLemmas.{class_of_itself, one_class}
 use Rattle.open_places.specs.Places.{IsRising}
 use Rattle.adapt_machine.specs.declared.MachineStep.{MachineStep}
 use Rattle.adapt_machine.specs.Machine.{MachineValue}
@@ -20,11 +21,10 @@ use Rattle.machine_build.specs.Adding.{AreMoves, HasWay}
 use Rattle.machine_build.specs.Built.{BuiltValue, IsDoneBy, IsHopAt, IsState, MovesBy, kind_of}
 use Rattle.machine_build.specs.Frames.{IsFramed, step_kind}
 use Rattle.machine_build.specs.Ways.{AreOpen, IsDone, IsEnd, IsWay, Way, far_by, from_of, near_by, site_by, site_of, step_by, step_of, to_of, way_of}
-use Rattle.machine_build.proofs.Crossed.{one_class}
+use Rattle.machine_build.proofs.Crossed.{numbered_class}
 use Rattle.machine_build.proofs.Fitting.{one_state, same_place}
-use Rattle.machine_build.proofs.Items.{at_contains, at_mapped, mapped_at, same_at}
-use Rattle.machine_build.proofs.Listed.{among_place, place_among}
-use Rattle.machine_build.proofs.Named.{element_found, element_id, element_numbered, one_element, one_number, same_class}
+use Rattle.machine_build.proofs.Items.{at_contains, at_mapped, mapped_at}
+use Rattle.machine_build.proofs.Named.{element_found, element_id, element_numbered, one_element, one_number}
 use Rattle.machine_build.proofs.Passages.{IsFramedBy, Passage, Passes, Related, Sides, far_is, from_is, kind_is, makes_hops, moved, near_is, passage, rule_related, sides, site_element, step_cost, to_is}
 
 module _ (T : Topology) (places : List PlaceName) (frames : List Frame) where
@@ -55,7 +55,7 @@ module _ (T : Topology) (places : List PlaceName) (frames : List Frame) where
 
     framed_there : IsFramed frames way.placed.element way.near.class way.leaves.label m.effect.frame.0
     framed_there =
-        let class : way.near.class ≡ d.effect.class = one_class T m.near.port.0 d.effect.class d.effect.has_class way.from way.near.class way.near.port_at way.near.is_class in
+        let class : way.near.class ≡ d.effect.class = numbered_class T m.near.port.0 d.effect.class d.effect.has_class way.from way.near.class way.near.port_at way.near.is_class in
         let place : d.place ≡ way.leaves = same_at places m.near.state.0 d.place way.leaves d.place_at way.near.place_at in
         subst (λ c. IsFramed frames way.placed.element c way.leaves.label m.effect.frame.0) (sym class)
         (subst (λ (x : PlaceName). IsFramed frames way.placed.element d.effect.class x.label m.effect.frame.0) place
@@ -69,7 +69,7 @@ module _ (T : Topology) (places : List PlaceName) (frames : List Frame) where
 open_end : (T : Topology) (places : List PlaceName) → AreOpen T places → (end : End) (p : Port) (x : PlaceName) (is : IsEnd T places end p x) → IsPlace T p.id x.label is.class
 open_end T places opened end p x is =
     let o = opened end.state.0 x is.place_at in
-    let same : o.0 ≡ is.class = same_class T is.class.id o.0 is.class (subst (λ id. IsClass T id o.0) (sym o.1 ∙ is.named) o.2.is_class) (class_of_itself T p.id is.class is.is_class) in
+    let same : o.0 ≡ is.class = one_class T is.class.id o.0 is.class (subst (λ id. IsClass T id o.0) (sym o.1 ∙ is.named) o.2.is_class) (class_of_itself T p.id is.class is.is_class) in
     record { is_class = is.is_class; is_open = (subst (λ (c : Port). IsPlace T o.0.id x.label c) same o.2).is_open }
 
 module _ (T : Topology) (none : duplicate_ids T ≡ []) (places : List PlaceName) (opened : AreOpen T places) (frames : List Frame) (m : Move) (h : Hop) (of : HopOf T places frames m h) where
@@ -287,7 +287,7 @@ module _ (T : Topology) (none : duplicate_ids T ≡ []) (places : List PlaceName
   same_end : (d e : End) (p q : Port) (x y : PlaceName) → IsEnd T places d p x → IsEnd T places e q y → p.id ≡ q.id → x.label ≡ y.label → d ≡ e
   same_end d e p q x y is_d is_e ids labels =
       let number : d.port.0 ≡ e.port.0 = one_number T d.port.0 e.port.0 p q none is_d.port_at is_e.port_at ids in
-      let class : is_d.class ≡ is_e.class = same_class T q.id is_d.class is_e.class (subst (λ id. IsClass T id is_d.class) ids is_d.is_class) is_e.is_class in
+      let class : is_d.class ≡ is_e.class = one_class T q.id is_d.class is_e.class (subst (λ id. IsClass T id is_d.class) ids is_d.is_class) is_e.is_class in
       let place : x ≡ y = same_place x y (is_d.named ∙ ap (λ (c : Port). c.id) class ∙ sym is_e.named) labels in
       let state : d.state.0 ≡ e.state.0 = one_state places rise d.state.0 e.state.0 y (subst (λ z. slice_get places d.state.0 ≡ Some z) place is_d.place_at) is_e.place_at in
       let make : ℕ → ℕ → End = λ n k. record { port = record { 0 = n }; state = record { 0 = k } } in

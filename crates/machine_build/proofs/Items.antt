@@ -1,25 +1,10 @@
 -- Items of lists at their places.
-use Rattle.std.proofs.Common.{◌≡◌, ℕ, zero, suc, ◌+◌, ◌<◌, ◌⊎◌, inl, inr, List, [], ◌∷◌, ◌++◌, Bool, true, false, Some, map, length, refl, sym, ◌∙◌, ap, subst, arith, Contains}
+use Rattle.std.proofs.Common.{◌≡◌, ℕ, zero, suc, ◌+◌, ◌⊎◌, inl, inr, List, [], ◌∷◌, ◌++◌, Bool, true, false, Some, map, length, refl, sym, ◌∙◌, ap, subst, arith, Contains}
 use Rattle.std.specs.Prelude.{slice_get}
-use Rattle.std.specs.List.{AllByRecursion, IsDistinct}
-use Rattle.std.proofs.lemmas.Option.{slice_get_within, get_or_from_slice_get, slice_get-get_or}
-use Rattle.std.proofs.lemmas.Bool.{both_ways, cases_lt}
-
-pub one_of_some : {A : Type 0} {x y : A} → Some x ≡ Some y → x ≡ y
-one_of_some e = cc
-
-pub same_at : {A : Type 0} (xs : List A) (i : ℕ) (x y : A) → slice_get xs i ≡ Some x → slice_get xs i ≡ Some y → x ≡ y
-same_at xs i x y e f = cc
-
-pub some_at : {A : Type 0} (xs : List A) (n : ℕ) → n < length xs → (x : A) × (slice_get xs n ≡ Some x)
-some_at [] n h = absurd (omega arith)
-some_at (x ∷ xs) zero h = (x, refl)
-some_at (x ∷ xs) (suc n) h = some_at xs n (omega (arith, h))
-
-pub at_left : {A : Type 0} (xs ys : List A) (k : ℕ) (x : A) → slice_get xs k ≡ Some x → slice_get (xs ++ ys) k ≡ Some x
-at_left [] ys k x at = cc
-at_left (z ∷ xs) ys zero x at = at
-at_left (z ∷ xs) ys (suc k) x at = at_left xs ys k x at
+use Rattle.std.specs.List.{IsDistinct}
+use Rattle.std.proofs.lemmas.Option.{slice_get-get_or}
+use Rattle.std.proofs.lemmas.Bool.{both_ways}
+use Rattle.ml_base.proofs.Lists.{one_of_some, all_at}
 
 pub at_right : {A : Type 0} (xs ys : List A) (k : ℕ) (x : A) (n : ℕ) → n ≡ length xs + k → slice_get ys k ≡ Some x → slice_get (xs ++ ys) n ≡ Some x
 at_right [] ys k x n e at = let same : k ≡ n = omega (arith, e) in subst (λ m. slice_get ys m ≡ Some x) same at
@@ -38,16 +23,6 @@ at_cases (z ∷ xs) ys (suc k) x at = elim (at_cases xs ys k x at) as (λ v. (sl
   | inr b ↦ inr (b.0, omega (arith, b.1), b.2)
 ]
 
-pub then_none : {A : Type 0} (xs : List A) → xs ++ [] ≡ xs
-then_none [] = refl
-then_none (x ∷ xs) = ap (λ l. x ∷ l) (then_none xs)
-
-pub number_cases : (i n : ℕ) → i < n + 1 → (i < n) ⊎ (i ≡ n)
-number_cases i n l = elim (cases_lt i n) as (λ v. (i < n) ⊎ (i ≡ n)) [ inl a ↦ inl a | inr b ↦ inr (omega arith) ]
-
-pub contains_at : {A : Type 0} (xs : List A) (k : ℕ) (x : A) → slice_get xs k ≡ Some x → Contains xs x
-contains_at xs k x at = (k, slice_get_within xs k x at, get_or_from_slice_get xs k x x at)
-
 pub at_contains : {A : Type 0} (xs : List A) (x : A) → Contains xs x → (k : ℕ) × (slice_get xs k ≡ Some x)
 at_contains xs x c = (c.0, slice_get-get_or xs c.0 x c.1 ∙ ap Some c.2)
 
@@ -60,11 +35,6 @@ pub at_mapped : {A B : Type 0} (f : A → B) (xs : List A) (k : ℕ) (y : B) →
 at_mapped f [] k y at = cc
 at_mapped f (x ∷ xs) zero y at = (x, refl, sym (one_of_some at))
 at_mapped f (x ∷ xs) (suc k) y at = at_mapped f xs k y at
-
-all_at : {A : Type 0} (P : A → Type 0) (xs : List A) (i : ℕ) (x : A) → AllByRecursion P xs → slice_get xs i ≡ Some x → P x
-all_at P [] i x all at = cc
-all_at P (y ∷ ys) zero x all at = subst P (one_of_some at) all.0
-all_at P (y ∷ ys) (suc i) x all at = all_at P ys i x all.1 at
 
 -- keys that are distinct by a test that each passes with itself stand once
 pub distinct_once : {A : Type 0} (e : A → A → Bool) → ((x : A) → e x x ≡ true) → (xs : List A) → IsDistinct e xs → (f g : ℕ) (x : A) → slice_get xs f ≡ Some x → slice_get xs g ≡ Some x → f ≡ g

@@ -4,23 +4,14 @@ use Rattle.std.specs.Prelude.{slice_get, option_map}
 use Rattle.std.specs.List.{enumerate_from}
 use Rattle.std.proofs.lemmas.Option.{slice_get_within}
 use Rattle.ml_base.specs.declared.numbers.PortNo.{PortNo}
+use Rattle.ml_base.specs.Lists.{IsAmong}
+use Rattle.ml_base.proofs.Lists.{one_of_some, place_among, among_place}
 use Rattle.nml_elements.specs.declared.elements.Element.{Element}
 use Rattle.label_atoms.specs.Alike.{Climbing}
 use Rattle.circuit_spec.specs.Network.{Topology, Placed, Port, elements_of, ports}
-use Rattle.circuit_spec.proofs.Among.{IsAmong}
 use Rattle.circuit_spec.proofs.Lists.{among_filter}
 use Rattle.nml_inventory.specs.Relations.{AreNumbersOf, numbers_where}
-use Rattle.machine_build.proofs.Items.{at_mapped, mapped_at, one_of_some}
-
-pub place_among : {A : Type 0} (xs : List A) (x : A) → IsAmong xs x → (i : ℕ) × (slice_get xs i ≡ Some x)
-place_among [] x a = absurd a
-place_among (y ∷ xs) x (inl e) = (0, ap Some (sym e))
-place_among (y ∷ xs) x (inr later) = let p = place_among xs x later in (suc p.0, p.1)
-
-pub among_place : {A : Type 0} (xs : List A) (i : ℕ) (x : A) → slice_get xs i ≡ Some x → IsAmong xs x
-among_place [] i x e = cc
-among_place (y ∷ xs) zero x e = inl (sym (one_of_some e))
-among_place (y ∷ xs) (suc i) x e = inr (among_place xs i x e)
+use Rattle.machine_build.proofs.Items.{at_mapped, mapped_at}
 
 among_map : {A B : Type 0} (f : A → B) (xs : List A) (x : A) → IsAmong xs x → IsAmong (map f xs) (f x)
 among_map f [] x a = absurd a

@@ -3,6 +3,9 @@ use Rattle.std.proofs.Common.{◌≡◌, ℕ, ◌⊎◌, inl, inr, List, [], ◌
 use Rattle.std.specs.Prelude.{slice_get}
 use Rattle.std.specs.Str.{bytes_eq}
 use Rattle.std.proofs.lemmas.Slice.Eq.{bytes_eq-Decides}
+use Rattle.std.proofs.lemmas.Bool.{and_from}
+use Rattle.ml_base.proofs.Lists.{any_among, one_of_some}
+use Rattle.ml_base.specs.Lists.{IsAmong}
 use Rattle.nml_elements.specs.declared.elements.Element.{Element}
 use Rattle.nml_elements.specs.declared.elements.Element.TheVariants as element
 use Rattle.nml_elements.specs.declared.elements.Labels.{Labels}
@@ -16,7 +19,7 @@ use Rattle.circuit_spec.specs.Network.{Name, Tag, Topology, Port, IsClass, names
 use Rattle.circuit_spec.specs.Segments.{unit_in}
 use Rattle.circuit_spec.specs.Steps.{IsCarried, Rule, Step, frame_of, inbound_of, outbound_of}
 use Rattle.circuit_spec.proofs.Alone.{found_port}
-use Rattle.circuit_spec.proofs.Among.{IsAmong, any_among}
+use Rattle.circuit_spec.proofs.Types.{port_of_class}
 use Rattle.adapt_machine.specs.declared.MachineKind.{MachineKind}
 use Rattle.adapt_machine.specs.declared.MachineKind.TheVariants.{Flat, Push, Pop}
 use Rattle.machine_build.specs.declared.ways.End.{End}
@@ -24,11 +27,6 @@ use Rattle.machine_build.specs.declared.ways.Move.{Move}
 use Rattle.machine_build.specs.Built.{MovesBy, kind_of}
 use Rattle.machine_build.specs.Frames.{IsFramed, step_kind}
 use Rattle.machine_build.specs.Ways.{IsEnd, Lets, carries, changes, far_by, from_of, is_far, is_near, near_by, site_by, step_by, takes, to_of}
-use Rattle.machine_build.proofs.Items.{one_of_some}
-use Rattle.machine_build.proofs.Named.{port_of_class}
-
-both_true : (s t : Bool) → s ≡ true → t ≡ true → (s && t) ≡ true
-both_true s t e f = ap (λ b. b && t) e ∙ f
 
 -- what the element asks of the ports and labels of its hops
 abbrev pub Passes : Topology → Element → Port → Tag → Port → Tag → Type 0
@@ -147,7 +145,7 @@ carried (Of labeltype set) (Some label) e = e
 
 has_port : (T : Topology) (id : Name) (p : Port) (test : Port → Bool) → IsAmong (ports T) p → id ≡ p.id → test p ≡ true → port_has T id test ≡ true
 has_port T id p test among same t =
-    any_among (λ x. bytes_eq x.id id && test x) (ports T) p among (both_true (bytes_eq p.id id) (test p) ((bytes_eq-Decides p.id id).1 (sym same)) t)
+    any_among (λ x. bytes_eq x.id id && test x) (ports T) p among (and_from (bytes_eq p.id id) (test p) ((bytes_eq-Decides p.id id).1 (sym same)) t)
 
 pub makes_hops : (T : Topology) (e : Element) (p q : Port) (x y : Tag) → Passes T e p x q y → (k : HopKind) × (kind_of e ≡ Some k)
 makes_hops T (element.Link l) p q x y r = (kind.Link, refl)

@@ -2,9 +2,10 @@
 use Rattle.std.proofs.Common.{◌≡◌, ℕ, ◌+◌, ◌<◌, ◌≤◌, inl, List, [], ◌++◌, Bool, true, false, None, Some, map, length, refl, sym, ◌∙◌, ap, subst, arith}
 use Rattle.std.specs.Prelude.{option_map, slice_get}
 use Rattle.std.proofs.lemmas.Bool.{both_ways}
-use Rattle.std.proofs.lemmas.List.{append_assoc}
+use Rattle.std.proofs.lemmas.List.{append_assoc, append-nil}
 use Rattle.std.proofs.lemmas.Option.{slice_get_within}
 use Rattle.ml_base.specs.declared.numbers.PortNo.{PortNo}
+use Rattle.ml_base.proofs.Lists.{one_of_some, same_at, at_left}
 use Rattle.nml_elements.specs.declared.elements.Element.{Element}
 use Rattle.nml_elements.specs.declared.elements.Element.TheVariants as element
 use Rattle.circuit_spec.specs.declared.hops.Frame.{Frame}
@@ -21,13 +22,12 @@ use Rattle.machine_build.specs.Frames.{GoesOn, IsEffect, IsFramed}
 use Rattle.machine_build.specs.Ways.{AreFitting, GoesFrom, IsDone, IsEnd, IsFarPort, IsNearEnd, IsNearPort, IsWay, Lets, Way, changes, is_far, is_near, takes, way_of}
 use Rattle.machine_build.proofs.Crossed.{end_in, end_is, in_span}
 use Rattle.machine_build.proofs.Growing.{adds_next, adds_none, adds_same}
-use Rattle.machine_build.proofs.Items.{at_left, one_of_some, same_at, then_none}
 use Rattle.machine_build.proofs.Listed.{at_listed, listed_at, listed_once}
 
 -- Frames that go on
 
 pub goes_on_none : {A : Type 0} (xs : List A) → GoesOn xs xs
-goes_on_none xs = ([], sym (then_none xs))
+goes_on_none xs = ([], sym (append-nil xs))
 
 pub goes_on_then : {A : Type 0} (xs ys zs : List A) → GoesOn xs ys → GoesOn ys zs → GoesOn xs zs
 goes_on_then xs ys zs a b = (a.0 ++ b.0, b.1 ∙ ap (λ l. l ++ b.0) a.1 ∙ append_assoc xs a.0 b.0)

@@ -6,6 +6,7 @@ use Rattle.std.proofs.lemmas.Option.{slice_get-get_or, slice_get_within}
 use Rattle.nml_elements.specs.declared.elements.Element.{Element}
 use Rattle.nml_elements.specs.declared.elements.Element.TheVariants as element
 use Rattle.ml_base.specs.declared.numbers.StateNo.{StateNo}
+use Rattle.ml_base.proofs.Lists.{contains_at}
 use Rattle.circuit_spec.specs.declared.hops.Frame.{Frame}
 use Rattle.circuit_spec.specs.declared.hops.PlaceName.{PlaceName}
 use Rattle.circuit_spec.specs.declared.hops.Request.{Request}
@@ -24,7 +25,7 @@ use Rattle.machine_build.specs.Built.{AreAllowed, IsBuilt}
 use Rattle.machine_build.specs.Frames.{AreApart, IsFramed, step_kind}
 use Rattle.machine_build.specs.Ways.{AreOpen, HaveSpans, IsDone, IsWay, site_of, step_by, step_of, way_of}
 use Rattle.machine_build.proofs.Hops.{a_hop, hop_once, hop_sound, hop_there}
-use Rattle.machine_build.proofs.Items.{at_mapped, contains_at}
+use Rattle.machine_build.proofs.Items.{at_mapped}
 
 -- the places of states are open
 pub are_open : (T : Topology) (table : List KeptOfType) (v : PlacesValue) → ArePlaces T table v → AreOpen T v.places

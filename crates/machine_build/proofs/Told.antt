@@ -1,6 +1,7 @@
 -- The hop that is told of a step.
 use Rattle.std.proofs.Common.{◌≡◌, ℕ, List, Some, sym, ◌∙◌, ap, subst}
 use Rattle.std.specs.Prelude.{slice_get, option_map}
+use Rattle.ml_base.proofs.Lists.{one_of_some, same_at}
 use Rattle.nml_elements.specs.declared.elements.Element.{Element}
 use Rattle.circuit_spec.specs.declared.hops.Hop.{Hop}
 use Rattle.circuit_spec.specs.declared.hops.PlaceName.{PlaceName}
@@ -8,7 +9,6 @@ use Rattle.circuit_spec.specs.Network.{Topology, Placed, Port, elements_of, id_o
 use Rattle.adapt_machine.specs.declared.MachineStep.{MachineStep}
 use Rattle.machine_build.specs.declared.built.Site.{Site}
 use Rattle.machine_build.specs.Built.{BuiltValue, IsHopAt, kind_of}
-use Rattle.machine_build.proofs.Items.{one_of_some, same_at}
 
 field_at : {A B : Type 0} (f : A → B) (xs : List A) (n : ℕ) (x : A) (y : B) → slice_get xs n ≡ Some x → option_map f (slice_get xs n) ≡ Some y → y ≡ f x
 field_at f xs n x y at is = sym (one_of_some (sym (ap (option_map f) at) ∙ is))

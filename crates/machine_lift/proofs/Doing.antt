@@ -4,6 +4,7 @@ use Rattle.std.specs.Prelude.{slice_get}
 use Rattle.ml_base.specs.declared.numbers.FrameNo.{FrameNo}
 use Rattle.ml_base.specs.declared.numbers.StateNo.{StateNo}
 use Rattle.ml_base.specs.declared.numbers.Wish.{Wish}
+use Rattle.ml_base.proofs.Lists.{same_at}
 use Rattle.adapt_machine.specs.declared.MachineKind.{MachineKind}
 use Rattle.adapt_machine.specs.declared.MachineKind.TheVariants.{Flat, Push, Pop}
 use Rattle.adapt_machine.specs.declared.MachineStep.{MachineStep}
@@ -15,21 +16,18 @@ use Rattle.circuit_spec.specs.declared.hops.HopKind.TheVariants as kind
 use Rattle.circuit_spec.specs.declared.hops.PlaceName.{PlaceName}
 use Rattle.circuit_spec.specs.declared.hops.Request.{Request}
 use Rattle.circuit_spec.specs.Kept.{HasKept, IsOverKept}
-use Rattle.circuit_spec.specs.Network.{Name, Tag, Topology, Port, IsClass, IsOpen, Linked, ports}
+use Rattle.circuit_spec.specs.Network.{Name, Tag, Topology, Port, IsClass, IsOpen}
 use Rattle.circuit_spec.specs.Segments.{unit_in, IsStart, IsTarget}
 use Rattle.circuit_spec.specs.Steps.{Step, cost_of}
-use Rattle.circuit_spec.proofs.ClassLemmas.{First-unique, class_of_itself}
+use Rattle.circuit_spec.proofs.ClassLemmas.{class_of_itself, one_class}
 use Rattle.circuit_spec.proofs.HopSegments.{kept_system}
 use Rattle.circuit_spec.proofs.Matching.{not_kept, unlike}
 use Rattle.kept_table.specs.Table.{IsKeptTable, KeptOfType}
 use Rattle.open_places.specs.Places.{IsListed, IsStatePlace}
+use Rattle.open_places.proofs.Ordered.{states_once}
 use Rattle.machine_build.specs.Built.{BuiltValue, IsAllowedState, IsBuilt, IsHopAt, IsState, MovesBy}
 use Rattle.machine_lift.proofs.OneHop.{kept_kind, one_put, one_taken, put_kind, taken_kind}
 use Rattle.machine_lift.proofs.Simulations.{Relating, Simulates}
-use Rattle.machine_lift.proofs.States.{one_number, same_at}
-
-one_class : (T : Topology) (id : Name) (x y : Port) → IsClass T id x → IsClass T id y → x ≡ y
-one_class T id x y f g = First-unique (λ q. Linked T id q.id) (ports T) x y f g
 
 module _ (T : Topology) (r : Request) (table : List KeptOfType) (kept : IsKeptTable T r table) where
   -- a label of the table is kept, and a kept one is in the table
@@ -86,7 +84,7 @@ module _ (T : Topology) (r : Request) (table : List KeptOfType) (kept : IsKeptTa
     as_state n = record { 0 = n }
 
     one_state : (place : PlaceName) (x y : StateNo) → IsState b x place → IsState b y place → x ≡ y
-    one_state place x y atx aty = let same : x.0 ≡ y.0 = one_number b.places x.0 y.0 place built.rise atx aty in ap (λ n. as_state n) same
+    one_state place x y atx aty = let same : x.0 ≡ y.0 = states_once b.places x.0 y.0 place built.rise atx aty in ap (λ n. as_state n) same
 
     -- the label of an allowed state is kept
     pub kept_end : (port : Name) (wish : Wish) (x : StateNo) (a : IsAllowedState T b.places port wish x) → HasKept T r a.class a.place.label

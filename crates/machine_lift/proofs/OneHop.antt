@@ -1,6 +1,7 @@
 -- A step has one hop, and a hop does one thing to the stack.
 use Rattle.std.proofs.Common.{◌≡◌, ℕ, [], ◌∷◌, ◌++◌, Some, refl, sym, ◌∙◌, ap, subst}
 use Rattle.std.specs.Prelude.{slice_get}
+use Rattle.ml_base.proofs.Lists.{same_at}
 use Rattle.nml_elements.specs.declared.elements.Element.{Element}
 use Rattle.nml_elements.specs.declared.elements.Element.TheVariants as element
 use Rattle.adapt_machine.specs.declared.MachineStep.{MachineStep}
@@ -17,7 +18,6 @@ use Rattle.circuit_spec.proofs.ClassLemmas.{First-unique}
 use Rattle.circuit_spec.proofs.Effects.{Effect, keeps, puts, takes, Keeps, effect}
 use Rattle.machine_build.specs.Built.{BuiltValue, IsHopAt, IsState, kind_of}
 use Rattle.machine_build.specs.declared.built.Site.{Site}
-use Rattle.machine_lift.proofs.States.{same_at}
 
 -- The hop of a step
 

@@ -1,9 +1,11 @@
 -- The places that a class has, of those that are listed.
-use Rattle.std.proofs.Common.{◌≡◌, ◌∙◌, refl, sym, ap, subst, inl, inr, ◌⊎◌, ℕ, zero, suc, ◌+◌, ◌<◌, List, [], ◌∷◌, ◌++◌, filter, Bool, true, false, cond, None, Some, arith}
+use Rattle.std.proofs.Common.{◌≡◌, ◌∙◌, refl, sym, ap, subst, inl, inr, ℕ, ◌+◌, ◌<◌, List, [], ◌∷◌, ◌++◌, filter, Bool, true, false, cond, None, Some, arith}
 use Rattle.std.specs.Prelude.{◌↔◌, slice_get, option_map, ◌||◌, nat_lt}
 use Rattle.std.specs.List.{Contains}
 use Rattle.std.proofs.lemmas.List.Elements.{Contains-append_left, Contains-append_right, Contains-append_cases}
 use Rattle.std.proofs.lemmas.Bool.Decides.{nat_tests}
+use Rattle.std.proofs.lemmas.Bool.{or_cases}
+use Rattle.ml_base.proofs.Lists.{one_of_some, among_left, among_right, contains_among, among_contains, among_cases}
 use Rattle.label_sets.specs.Ranges.{has, is_within}
 use Rattle.label_atoms.specs.Pieces.{IsAmong}
 use Rattle.nml_elements.specs.Labels.{is_among}
@@ -11,9 +13,9 @@ use Rattle.nml_elements.specs.declared.elements.Labels.{Labels}
 use Rattle.nml_elements.specs.declared.elements.Labels.TheVariants.{Unlabelled, Of}
 use Rattle.circuit_spec.specs.declared.hops.PlaceName.{PlaceName}
 use Rattle.circuit_spec.specs.Network.{Name, Tag, Topology, Port, Linked, IsClass, IsOpen, label_type, ports}
-use Rattle.circuit_spec.specs.Faults.{duplicate_ids, duplicate_topologies, merge_faults, wrong_kinds}
-use Rattle.circuit_spec.proofs.Lists.{both_empty}
+use Rattle.circuit_spec.specs.Faults.{merge_faults}
 use Rattle.circuit_spec.proofs.ClassLemmas.{First-unique}
+use Rattle.circuit_spec.proofs.Merged.{ids_once}
 use Rattle.nml_inventory.specs.Aliases.{IsClassNumber}
 use Rattle.nml_inventory.specs.Relations.{AreClassLabels}
 use Rattle.nml_inventory.proofs.Distinct.{same_place}
@@ -23,51 +25,18 @@ use Rattle.kept_table.specs.Table.{KeptOfType, labels_in}
 use Rattle.open_places.specs.Places.{IsListed}
 use Rattle.open_places.specs.Gathering.{Adds, AreGathered, IsPlaceOf, labelled, within_ranges}
 
-one_of_some : {A : Type 0} {x y : A} → Some x ≡ Some y → x ≡ y
-one_of_some e = cc
-
-ids_once : (T : Topology) → merge_faults T ≡ [] → duplicate_ids T ≡ []
-ids_once T merged = (both_empty (duplicate_topologies T) (duplicate_ids T) (both_empty (duplicate_topologies T ++ duplicate_ids T) (wrong_kinds T) merged).0).1
-
 -- ---- lists
-
-pub contains_among : {A : Type 0} (xs : List A) (x : A) → Contains xs x → IsAmong xs x
-contains_among [] x (k, h, e) = absurd (omega arith)
-contains_among (y ∷ ys) x (zero, h, e) = inl (sym e)
-contains_among (y ∷ ys) x (suc k, h, e) = inr (contains_among ys x (k, omega (arith, h), e))
-
-pub among_contains : {A : Type 0} (xs : List A) (x : A) → IsAmong xs x → Contains xs x
-among_contains [] x a = absurd a
-among_contains (y ∷ ys) x (inl e) = (0, omega arith, sym e)
-among_contains (y ∷ ys) x (inr later) = let k = among_contains ys x later in (suc k.0, omega (arith, k.1), k.2)
-
-among_cases : {A : Type 0} (xs ys : List A) (x : A) → IsAmong (xs ++ ys) x → IsAmong xs x ⊎ IsAmong ys x
-among_cases [] ys x a = inr a
-among_cases (z ∷ zs) ys x (inl e) = inl (inl e)
-among_cases (z ∷ zs) ys x (inr later) = elim (among_cases zs ys x later) [
-  | inl here ↦ inl (inr here)
-  | inr there ↦ inr there
-]
-
-among_left : {A : Type 0} (xs ys : List A) (x : A) → IsAmong xs x → IsAmong (xs ++ ys) x
-among_left [] ys x a = absurd a
-among_left (z ∷ zs) ys x (inl e) = inl e
-among_left (z ∷ zs) ys x (inr later) = inr (among_left zs ys x later)
-
-among_right : {A : Type 0} (xs ys : List A) (x : A) → IsAmong ys x → IsAmong (xs ++ ys) x
-among_right [] ys x a = a
-among_right (z ∷ zs) ys x a = inr (among_right zs ys x a)
 
 -- what is put behind is added
 pub adds_behind : (R : PlaceName → Type 0) (old more new : List PlaceName) → new ≡ old ++ more → ((place : PlaceName) → IsAmong more place ↔ R place) → Adds R old new
 adds_behind R old more new is are place = (
   λ held. elim (Contains-append_cases old more place (subst (λ (xs : List PlaceName). Contains xs place) is held)) [
     | inl before ↦ inl before
-    | inr behind ↦ inr ((are place).0 (contains_among more place behind))
+    | inr behind ↦ inr ((are place).0 (among_contains more place behind))
   ],
   λ held. subst (λ (xs : List PlaceName). Contains xs place) (sym is) (elim held [
     | inl before ↦ Contains-append_left old more place before
-    | inr here ↦ Contains-append_right old more place (among_contains more place ((are place).1 here))
+    | inr here ↦ Contains-append_right old more place (contains_among more place ((are place).1 here))
   ]),
 )
 
@@ -112,10 +81,6 @@ or_left a b e = ap (λ (c : Bool). c || b) e
 or_right : (a b : Bool) → b ≡ true → (a || b) ≡ true
 or_right true b e = refl
 or_right false b e = e
-
-or_cases : (a b : Bool) → (a || b) ≡ true → (a ≡ true) ⊎ (b ≡ true)
-or_cases true b e = inl refl
-or_cases false b e = inr e
 
 -- at a label that is in the ranges
 abbrev IsHeld : List ℕ → List (ℕ × ℕ) → ℕ → Type 0

@@ -4,24 +4,17 @@ use Rattle.std.specs.Prelude.{◌↔◌, slice_get}
 use Rattle.std.specs.List.{Contains}
 use Rattle.std.proofs.lemmas.List.{length-append}
 use Rattle.std.proofs.lemmas.Option.{slice_get_within}
+use Rattle.ml_base.proofs.Lists.{one_of_some}
 use Rattle.nml_inventory.specs.Aliases.{IsClassNumber}
 use Rattle.circuit_spec.specs.declared.hops.PlaceName.{PlaceName}
-use Rattle.circuit_spec.specs.Network.{Name, Topology, Port, First, Linked, IsClass, ports}
+use Rattle.circuit_spec.specs.Network.{Name, Topology, Port, Linked, IsClass, ports}
 use Rattle.circuit_spec.proofs.ClassLemmas.{First-unique, class_of_itself}
+use Rattle.circuit_spec.proofs.Among.{first_stands}
 use Rattle.kept_table.specs.Table.{KeptOfType}
 use Rattle.open_places.specs.declared.span.Span.{Span}
 use Rattle.open_places.specs.Places.{PlacesValue, ArePlaces, IsRising, IsStatePlace}
 use Rattle.open_places.specs.Spans.{AreSpans, AreStates, IsClassSpan, IsPortSpan}
 use Rattle.open_places.specs.Gathering.{AreGathered}
-
-one_of_some : {A : Type 0} {x y : A} → Some x ≡ Some y → x ≡ y
-one_of_some e = cc
-
--- where the first item of a list stands
-first_stands : {A : Type 0} (P : A → Type 0) (xs : List A) (x : A) → First P xs x → (k : ℕ) × (slice_get xs k ≡ Some x)
-first_stands P [] x h = absurd h
-first_stands P (y ∷ ys) x (inl (p, e)) = (0, ap Some (sym e))
-first_stands P (y ∷ ys) x (inr (other, later)) = let f = first_stands P ys x later in (suc f.0, f.1)
 
 -- the places of all classes are the state places
 pub gathered_all : (T : Topology) (table : List KeptOfType) (places : List PlaceName) → AreGathered T table (length (ports T)) places → (place : PlaceName) → Contains places place ↔ IsStatePlace T table place

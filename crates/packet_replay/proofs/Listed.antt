@@ -4,14 +4,15 @@ use Rattle.std.proofs.Common.{◌≡◌, ℕ, zero, suc, ◌+◌, ◌<◌, ◌�
 use Rattle.std.specs.Prelude.{slice_get, option_map}
 use Rattle.std.specs.List.{enumerate_from}
 use Rattle.std.proofs.lemmas.Bool.{ne_eqb, ltb-true, ltb-false}
+use Rattle.std.proofs.Math.Bool.{or-false}
 use Rattle.ml_base.specs.declared.numbers.PortNo.{PortNo}
+use Rattle.ml_base.proofs.Lists.{one_of_some}
 use Rattle.nml_elements.specs.declared.elements.Element.{Element}
 use Rattle.alias_merge.specs.Rising.{holds}
 use Rattle.circuit_spec.specs.Network.{Topology, Placed, Port, elements_of, ports}
 use Rattle.nml_inventory.specs.Relations.{AreNumbersOf, numbers_where}
 use Rattle.nml_inventory.proofs.Tabling.{held_number, numbers_from}
 use Rattle.packet_replay.specs.Numbered.{Rises, numbers_in}
-use Rattle.packet_replay.proofs.Named.{one_of_some}
 
 -- Numbers of items that pass a test rise
 
@@ -29,10 +30,6 @@ numbers_rise {A} test a (x ∷ xs) = rise_by a x (filter (λ (y : ℕ × A). tes
 
 -- What a search by halves tells
 
-or_false : (b : Bool) → (b || false) ≡ b
-or_false true = refl
-or_false false = refl
-
 none_below : (first : ℕ) (found : List PortNo) (n : ℕ) → Rises first (numbers_in found) → n < first → holds (numbers_in found) n ≡ false
 none_below first [] n rise low = refl
 none_below first (p ∷ ps) n rise low =
@@ -41,7 +38,7 @@ none_below first (p ∷ ps) n rise low =
 held_at : (first : ℕ) (found : List PortNo) (n i : ℕ) (d : PortNo) → Rises first (numbers_in found) → ((k : ℕ) → k < i → (get_or found k d).0 < n) → i < length found → n ≤ (get_or found i d).0 → (get_or found i d).0 == n ≡ holds (numbers_in found) n
 held_at first [] n i d rise below inside above = absurd (omega arith)
 held_at first (p ∷ ps) n zero d rise below inside above =
-    sym (ap (λ b. (p.0 == n) || b) (none_below (p.0 + 1) ps n rise.1 (omega arith)) ∙ or_false (p.0 == n))
+    sym (ap (λ b. (p.0 == n) || b) (none_below (p.0 + 1) ps n rise.1 (omega arith)) ∙ or-false (p.0 == n))
 held_at first (p ∷ ps) n (suc i) d rise below inside above =
     let less : p.0 < n = below 0 (omega arith) in
     held_at (p.0 + 1) ps n i d rise.1 (λ k h. below (suc k) (omega arith)) (omega arith) above

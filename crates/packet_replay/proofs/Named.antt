@@ -1,32 +1,20 @@
 -- What look-ups by ids give: elements, ports and their classes.
-use Rattle.std.proofs.Common.{◌≡◌, ℕ, inl, inr, List, [], ◌∷◌, true, Option, None, Some, refl, sym, ◌∙◌, ap, subst}
+use Rattle.std.proofs.Common.{◌≡◌, ℕ, Option, None, Some, refl, sym, ◌∙◌, ap, subst}
 use Rattle.std.specs.Prelude.{slice_get, option_map}
-use Rattle.std.specs.List.{find}
 use Rattle.std.specs.Option.{option_and_then}
-use Rattle.std.specs.Str.{bytes_eq}
-use Rattle.std.proofs.lemmas.Bool.{and_parts, both_ways, or_cases}
-use Rattle.std.proofs.lemmas.Slice.Eq.{bytes_eq-Decides}
 use Rattle.ml_base.specs.declared.numbers.PortNo.{PortNo}
+use Rattle.ml_base.proofs.Lists.{one_of_some, same_at}
 use Rattle.nml_elements.specs.declared.elements.Element.{Element}
 use Rattle.circuit_spec.specs.declared.hops.Hop.{Hop}
-use Rattle.circuit_spec.specs.Network.{Name, Topology, Placed, Port, Chain, Linked, IsClass, elements_of, element_named, id_of, names, port_has, ports, states_alias}
-use Rattle.circuit_spec.proofs.Alone.{found_port}
-use Rattle.circuit_spec.proofs.Among.{IsAmong, among_first}
-use Rattle.circuit_spec.proofs.ClassLemmas.{First-unique}
-use Rattle.circuit_spec.proofs.Lists.{none_found}
+use Rattle.circuit_spec.specs.Network.{Name, Topology, Placed, Port, IsClass, elements_of, element_named, id_of, ports}
 use Rattle.nml_inventory.specs.Aliases.{IsClassNumber}
 use Rattle.nml_inventory.specs.Numbers.{element_number, port_number}
 use Rattle.nml_inventory.proofs.Names.{find_number}
 use Rattle.nml_inventory.proofs.PortNumbers.{number_found}
+use Rattle.nml_inventory.proofs.ClassNumbers.{no_class}
 use Rattle.packet_replay.specs.declared.numbers.End.{End}
 use Rattle.packet_replay.specs.Conditions.{IsWay, Way}
 use Rattle.packet_replay.specs.Numbered.{AreNumbers, IsEnd}
-
-pub one_of_some : {A : Type 0} {x y : A} → Some x ≡ Some y → x ≡ y
-one_of_some e = cc
-
-pub same_at : {A : Type 0} (xs : List A) (i : ℕ) (x y : A) → slice_get xs i ≡ Some x → slice_get xs i ≡ Some y → x ≡ y
-same_at xs i x y e f = cc
 
 -- what stands at a number
 pub element_is : (T : Topology) (n : ℕ) (placed : Placed) (e : Element) → slice_get (elements_of T) n ≡ Some placed → option_map (λ (p : Placed). p.element) (slice_get (elements_of T) n) ≡ Some e → e ≡ placed.element
@@ -47,31 +35,6 @@ no_element T id none =
     find_number (λ (p : Placed). id_of p.element) (elements_of T) id ∙ ap (option_and_then (λ (k : ℕ). slice_get (elements_of T) k)) none
 
 -- Ports
-
--- what has a class is a port
-chain_port : (T : Topology) (id : Name) (chain : List Name) (q : Port) → IsAmong (ports T) q → Chain T id chain q.id → (p : Port) × IsAmong (ports T) p × (p.id ≡ id)
-chain_port T id [] q among c = (q, among, sym c)
-chain_port T id (r ∷ rest) q among c =
-    elim (or_cases (states_alias T id r) (states_alias T r id) c.0) [
-      | inl forth ↦ let p = found_port T id (λ a. names a.aliases r) (and_parts (port_has T id (λ a. names a.aliases r)) (port_has T r (λ b. true)) forth).0 in (p.0, p.1, p.2)
-      | inr back ↦ let p = found_port T id (λ b. true) (and_parts (port_has T r (λ a. names a.aliases id)) (port_has T id (λ b. true)) back).1 in (p.0, p.1, p.2)
-    ]
-
-pub port_of_class : (T : Topology) (id : Name) (class : Port) → IsClass T id class → (p : Port) × IsAmong (ports T) p × (p.id ≡ id)
-port_of_class T id class is =
-    let f = among_first (λ q. Linked T id q.id) (ports T) class is in
-    chain_port T id f.1.0 class f.0 f.1.1
-
--- an id without a number has no class
-no_class : (T : Topology) (id : Name) → port_number T id ≡ None → (class : Port) → IsClass T id class → ⊥
-no_class T id none class is =
-    let p = port_of_class T id class is in
-    let unfound : find (λ (y : Port). bytes_eq y.id id) (ports T) ≡ None = find_number (λ (y : Port). y.id) (ports T) id ∙ ap (option_and_then (λ n. slice_get (ports T) n)) none in
-    both_ways (bytes_eq p.0.id id) (none_found (λ (y : Port). bytes_eq y.id id) (ports T) p.0 unfound p.1) ((bytes_eq-Decides p.0.id id).1 p.2)
-
--- a port has one class
-pub one_class : (T : Topology) (id : Name) (x y : Port) → IsClass T id x → IsClass T id y → x ≡ y
-one_class T id x y f g = First-unique (λ q. Linked T id q.id) (ports T) x y f g
 
 abbrev as_port : ℕ → PortNo
 as_port n = record { 0 = n }

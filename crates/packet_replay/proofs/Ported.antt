@@ -1,9 +1,10 @@
 -- The two ports of a hop, related by ids and by numbers.
-use Rattle.std.proofs.Common.{◌≡◌, ◌↔◌, ℕ, suc, inl, inr, List, [], ◌∷◌, Bool, true, false, ◌&&◌, Some, refl, sym, ◌∙◌, ap, subst}
+use Rattle.std.proofs.Common.{◌≡◌, ◌↔◌, ℕ, [], Bool, true, false, ◌&&◌, Some, refl, sym, ◌∙◌, ap, subst}
 use Rattle.std.specs.Prelude.{slice_get}
 use Rattle.std.specs.Str.{bytes_eq}
-use Rattle.std.proofs.lemmas.Bool.{and_parts}
+use Rattle.std.proofs.lemmas.Bool.{and_parts, and_from}
 use Rattle.std.proofs.lemmas.Slice.Eq.{bytes_eq-Decides}
+use Rattle.ml_base.proofs.Lists.{any_among, one_of_some, same_at, place_among, among_place}
 use Rattle.nml_elements.specs.declared.elements.Element.{Element}
 use Rattle.nml_elements.specs.declared.elements.Element.TheVariants as element
 use Rattle.circuit_spec.specs.declared.hops.Hop.{Hop}
@@ -13,28 +14,17 @@ use Rattle.circuit_spec.specs.Faults.{duplicate_ids, merge_faults}
 use Rattle.circuit_spec.specs.Network.{Name, Topology, Port, names, port_has, ports}
 use Rattle.circuit_spec.specs.Steps.{inbound_of, outbound_of}
 use Rattle.circuit_spec.proofs.Alone.{found_port}
-use Rattle.circuit_spec.proofs.Among.{IsAmong, any_among}
-use Rattle.nml_inventory.proofs.Answering.{merged_ids}
-use Rattle.nml_inventory.proofs.ClassNumbers.{among_place}
+use Rattle.circuit_spec.proofs.Merged.{ids_once}
 use Rattle.nml_inventory.proofs.Distinct.{same_place}
 use Rattle.nml_inventory.proofs.PortNumbers.{distinct_ports}
 use Rattle.packet_replay.specs.declared.numbers.Numbers.{Numbers}
 use Rattle.packet_replay.specs.Conditions.{Relates, Way}
 use Rattle.packet_replay.specs.Numbered.{AreNumbers, kind_of, relates_by}
-use Rattle.packet_replay.proofs.Named.{one_of_some, same_at}
-
-place_among : {A : Type 0} (xs : List A) (x : A) → IsAmong xs x → (i : ℕ) × (slice_get xs i ≡ Some x)
-place_among [] x a = absurd a
-place_among (y ∷ xs) x (inl e) = (0, ap Some (sym e))
-place_among (y ∷ xs) x (inr later) = let p = place_among xs x later in (suc p.0, p.1)
 
 same_truth : (a b : Bool) → (a ≡ true → b ≡ true) → (b ≡ true → a ≡ true) → a ≡ b
 same_truth true b to back = sym (to refl)
 same_truth false true to back = cc (back refl)
 same_truth false false to back = refl
-
-both_true : (s t : Bool) → s ≡ true → t ≡ true → (s && t) ≡ true
-both_true s t e f = ap (λ b. b && t) e ∙ f
 
 -- The port of an id is one
 module _ (T : Topology) (once : duplicate_ids T ≡ []) where
@@ -50,7 +40,7 @@ module _ (T : Topology) (once : duplicate_ids T ≡ []) where
           ap test one ∙ q.3
 
       back : test p ≡ true → port_has T id test ≡ true
-      back t = any_among (λ x. bytes_eq x.id id && test x) (ports T) p (among_place (ports T) i p at) (both_true (bytes_eq p.id id) (test p) ((bytes_eq-Decides p.id id).1 same) t)
+      back t = any_among (λ x. bytes_eq x.id id && test x) (ports T) p (among_place (ports T) i p at) (and_from (bytes_eq p.id id) (test p) ((bytes_eq-Decides p.id id).1 same) t)
 
   module _ (h : Hop) (i j : ℕ) (p q : Port) (p_at : slice_get (ports T) i ≡ Some p) (q_at : slice_get (ports T) j ≡ Some q) (from : p.id ≡ h.from) (to : q.id ≡ h.to) where
     related_by : (e : Element) → kind_of e ≡ Some h.kind → relates_by T h.kind e p q ≡ true → Relates T h e
@@ -81,27 +71,27 @@ module _ (T : Topology) (once : duplicate_ids T ≡ []) where
     kind_related (element.Link l) r = (
       ap Some (sym r.0),
       ap (λ k. relates_by T k (element.Link l) p q) r.0
-          ∙ both_true (names p.sources l.id) (names q.sinks l.id) (sym (port_passes h.from i p (λ x. names x.sources l.id) p_at from) ∙ r.1) (sym (port_passes h.to j q (λ x. names x.sinks l.id) q_at to) ∙ r.2),
+          ∙ and_from (names p.sources l.id) (names q.sinks l.id) (sym (port_passes h.from i p (λ x. names x.sources l.id) p_at from) ∙ r.1) (sym (port_passes h.to j q (λ x. names x.sinks l.id) q_at to) ∙ r.2),
     )
     kind_related (element.Switching s) r = (
       ap Some (sym r.0),
       ap (λ k. relates_by T k (element.Switching s) p q) r.0
-          ∙ both_true (names (inbound_of T s) p.id) (names (outbound_of T s) q.id) (ap (names (inbound_of T s)) from ∙ r.1) (ap (names (outbound_of T s)) to ∙ r.2),
+          ∙ and_from (names (inbound_of T s) p.id) (names (outbound_of T s) q.id) (ap (names (inbound_of T s)) from ∙ r.1) (ap (names (outbound_of T s)) to ∙ r.2),
     )
     kind_related (element.Adaptation a) r = (
       ap Some (sym r.0),
       ap (λ k. relates_by T k (element.Adaptation a) p q) r.0
-          ∙ both_true (names a.ports p.id) (names q.services a.id) (ap (names a.ports) from ∙ r.1) (sym (port_passes h.to j q (λ x. names x.services a.id) q_at to) ∙ r.2),
+          ∙ and_from (names a.ports p.id) (names q.services a.id) (ap (names a.ports) from ∙ r.1) (sym (port_passes h.to j q (λ x. names x.services a.id) q_at to) ∙ r.2),
     )
     kind_related (element.Deadaptation a) r = (
       ap Some (sym r.0),
       ap (λ k. relates_by T k (element.Deadaptation a) p q) r.0
-          ∙ both_true (names p.services a.id) (names a.ports q.id) (sym (port_passes h.from i p (λ x. names x.services a.id) p_at from) ∙ r.1) (ap (names a.ports) to ∙ r.2),
+          ∙ and_from (names p.services a.id) (names a.ports q.id) (sym (port_passes h.from i p (λ x. names x.services a.id) p_at from) ∙ r.1) (ap (names a.ports) to ∙ r.2),
     )
     kind_related (element.Conversion c) r = (
       ap Some (sym r.0),
       ap (λ k. relates_by T k (element.Conversion c) p q) r.0
-          ∙ both_true (names c.inbound p.id) (names c.outbound q.id) (ap (names c.inbound) from ∙ r.1) (ap (names c.outbound) to ∙ r.2),
+          ∙ and_from (names c.inbound p.id) (names c.outbound q.id) (ap (names c.inbound) from ∙ r.1) (ap (names c.outbound) to ∙ r.2),
     )
     kind_related (element.Node n) r = absurd r
     kind_related (element.Port x) r = absurd r
@@ -110,7 +100,7 @@ module _ (T : Topology) (once : duplicate_ids T ≡ []) where
 pub related_known : (T : Topology) → merge_faults T ≡ [] → (h : Hop) (way : Way) (numbers : Numbers) (are : AreNumbers T h way numbers) (k : HopKind) (b : Bool) → h.kind ≡ k → Some k ≡ kind_of way.placed.element
     → b ≡ relates_by T k way.placed.element are.from.port are.to.port → (b ≡ true) ↔ Relates T h way.placed.element
 related_known T merged h way numbers are k b same is by =
-    let once : duplicate_ids T ≡ [] = merged_ids T merged in
+    let once : duplicate_ids T ≡ [] = ids_once T merged in
     let e = way.placed.element in
     let p = are.from.port in
     let q = are.to.port in

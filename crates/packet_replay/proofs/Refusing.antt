@@ -5,10 +5,11 @@ use Rattle.circuit_spec.specs.declared.hops.Hop.{Hop}
 use Rattle.circuit_spec.specs.declared.hops.Unit.{Unit as DataUnit}
 use Rattle.circuit_spec.specs.Network.{Topology}
 use Rattle.circuit_spec.specs.Steps.{Step}
+use Rattle.circuit_spec.proofs.NextUnit.{one_next}
 use Rattle.packet_replay.specs.declared.faults.StepFault.{StepFault}
 use Rattle.packet_replay.specs.declared.faults.StepFault.TheVariants.{NoHop, Label, Frame as NoFrame, Full, NoMemory}
 use Rattle.packet_replay.specs.Conditions.{Fits, FitsFrame, FitsLabels, HasRoom, IsRefused, IsRelated, IsWay, TellsOfSteps, Way, unit_after}
-use Rattle.packet_replay.proofs.Stepping.{fitting_steps, one_next, one_way, steps_fit}
+use Rattle.packet_replay.proofs.Stepping.{fitting_steps, one_way, steps_fit}
 
 -- a hop that is not related by its way is not related
 pub not_related : (T : Topology) (u : DataUnit) (h : Hop) (way : Way) → IsWay T h way → (b : Bool) → (b ≡ true) ↔ IsRelated T u h way → b ≡ false → (other : Way) → ¬ IsRelated T u h other

@@ -1,6 +1,7 @@
 -- A hop that fits a unit is a step of it, and a step is a hop that fits.
 use Rattle.std.proofs.Common.{◌≡◌, ◌-◌, List, [], ◌∷◌, ◌++◌, length, take, refl, sym, ◌∙◌, ap, arith, length-append}
 use Rattle.std.proofs.Math.Seq.{take-append_seam}
+use Rattle.ml_base.proofs.Lists.{one_of_some}
 use Rattle.nml_elements.specs.declared.elements.Element.{Element}
 use Rattle.nml_elements.specs.declared.elements.Element.TheVariants as element
 use Rattle.circuit_spec.specs.declared.hops.Frame.{Frame}
@@ -8,8 +9,8 @@ use Rattle.circuit_spec.specs.declared.hops.Hop.{Hop}
 use Rattle.circuit_spec.specs.declared.hops.Unit.{Unit as DataUnit}
 use Rattle.circuit_spec.specs.Network.{Name, Tag, Topology, Placed, Port}
 use Rattle.circuit_spec.specs.Steps.{Rule, Step, frame_of}
+use Rattle.circuit_spec.proofs.ClassLemmas.{one_class}
 use Rattle.packet_replay.specs.Conditions.{Fits, IsWay, KeepsLabel, Relates, TakesTop, Way, stack_after, unit_after}
-use Rattle.packet_replay.proofs.Named.{one_class, one_of_some}
 
 -- The hop of an element has one way
 
@@ -93,10 +94,3 @@ steps_fit T u h v s =
       },
       unit_is v s.to.id h.to_label (stack_after h s.from s.placed.element u.stack) s.after.same_class s.after.same_label r.leaves,
     )
-
--- the next unit is one
-pub one_next : (T : Topology) (u : DataUnit) (h : Hop) (v w : DataUnit) → Step T u h v → Step T u h w → v ≡ w
-one_next T u h v w s t =
-    let x = steps_fit T u h v s in
-    let y = steps_fit T u h w t in
-    x.2 ∙ ap (λ way. unit_after h way u) (one_way T h x.0 y.0 x.1.related.is_way y.1.related.is_way) ∙ sym y.2

@@ -1,5 +1,5 @@
 -- The least of the weights that are listed at some states, as one state more counts.
-use Rattle.std.proofs.Common.{◌≡◌, ◌<◌, ◌≤◌, ◌⊎◌, List, [], ◌∷◌, ◌++◌, None, Some, Option, subst, sym, refl, inl, inr, arith, Contains}
+use Rattle.std.proofs.Common.{◌≡◌, ◌<◌, ◌≤◌, ◌⊎◌, List, [], ◌∷◌, ◌++◌, None, Some, Option, subst, sym, inl, inr, arith, Contains}
 use Rattle.std.proofs.lemmas.Bool.{cases_lt}
 use Rattle.std.proofs.lemmas.List.Elements.{Contains-append_left, Contains-push, Contains-push_cases}
 use Rattle.ml_base.specs.declared.numbers.Root.TheVariants.{Request}
@@ -7,27 +7,10 @@ use Rattle.ml_base.specs.declared.numbers.StateNo.{StateNo}
 use Rattle.ml_base.specs.declared.weight.Weight.{Weight}
 use Rattle.ml_base.specs.declared.weight.Weight.TheVariants.{Known, Past}
 use Rattle.ml_base.specs.Weight.{IsCappedAtMost}
+use Rattle.ml_base.proofs.Laws.{at_most-same, at_most-trans}
 use Rattle.segment_grammar.specs.declared.potentials.Pot.{Pot}
 use Rattle.segment_grammar.specs.Pots.{pot}
 use Rattle.pair_check.specs.Least.{IsLeastAt, IsLeastOf, IsLesserOf, NoneIsListed}
-
-pub at_most-refl : (w : Weight) → IsCappedAtMost w w
-at_most-refl (Known a h) = inr (refl, omega arith)
-at_most-refl Past = tt
-
-pub at_most-trans : (u v w : Weight) → IsCappedAtMost u v → IsCappedAtMost v w → IsCappedAtMost u w
-at_most-trans (Known a h) (Known b k) (Known c l) x y = both x y
-  where
-    both : (a < b) ⊎ ((a ≡ b) × (h ≤ k)) → (b < c) ⊎ ((b ≡ c) × (k ≤ l)) → (a < c) ⊎ ((a ≡ c) × (h ≤ l))
-    both (inl p) (inl q) = inl (omega arith)
-    both (inl p) (inr q) = inl (omega arith)
-    both (inr p) (inl q) = inl (omega arith)
-    both (inr p) (inr q) = inr (omega arith, omega arith)
-at_most-trans (Known a h) (Known b k) Past x y = tt
-at_most-trans (Known a h) Past (Known c l) x y = absurd y
-at_most-trans (Known a h) Past Past x y = tt
-at_most-trans Past (Known b k) w x y = absurd x
-at_most-trans Past Past w x y = y
 
 pub at_most-total : (u v : Weight) → ¬ IsCappedAtMost u v → IsCappedAtMost v u
 at_most-total (Known a h) (Known b k) n = go (cases_lt b a) (cases_lt a b) (cases_lt k h)
@@ -81,7 +64,7 @@ module _ (pots : List Pot) (before : List StateNo) (state : StateNo) where
       listed = found;
       least = λ x v c listed. elim (cases x c) as (λ s. IsCappedAtMost weight v) [
         | inl b ↦ absurd (not x v b listed)
-        | inr e ↦ at_state weight v x (at_most-refl weight) e listed
+        | inr e ↦ at_state weight v x (at_most-same weight) e listed
       ];
     }
 

@@ -8,6 +8,7 @@ use Rattle.ml_base.specs.declared.numbers.StateNo.{StateNo}
 use Rattle.ml_base.specs.declared.weight.Weight.{Weight}
 use Rattle.ml_base.specs.declared.weight.Weight.TheVariants as weight
 use Rattle.ml_base.specs.Weight.{IsCappedAtMost, cap, capped_total}
+use Rattle.ml_base.proofs.Laws.{at_most-antisym}
 use Rattle.adapt_machine.specs.declared.MachineStep.{MachineStep}
 use Rattle.adapt_machine.specs.Walks.{cost_found, system_of}
 use Rattle.segment_grammar.specs.declared.potentials.Pot.{Pot}
@@ -28,7 +29,6 @@ use Rattle.machine_lift.specs.Lift.{AreStatesOf, IsRootAt}
 use Rattle.machine_lift.proofs.Doing.{down, machine_does, network_does, up}
 use Rattle.machine_lift.proofs.Lifted.{lifted}
 use Rattle.machine_lift.proofs.Simulations.{Simulates}
-use Rattle.machine_lift.proofs.States.{one_number}
 use Rattle.answer_spec.specs.declared.answer.PotLine.{PotLine}
 use Rattle.answer_spec.specs.declared.answer.RootName.{RootName}
 use Rattle.answer_spec.specs.declared.answer.RootName.TheVariants as name
@@ -37,8 +37,8 @@ use Rattle.answer_spec.specs.Potentials as listed
 use Rattle.pair_check.specs.Least.{IsLeastAt, IsLeastOf, NoneIsListed}
 use Rattle.pair_check.specs.Rules as pair
 use Rattle.potential_check.specs.Pairs.{ArePairsOf, IsOutcomeOf, IsPairOf}
-use Rattle.potential_check.proofs.Weighing.{at_most-antisym}
 use Rattle.potential_check.proofs.Zipped.{zip_first, zip_second}
+use Rattle.open_places.proofs.Ordered.{states_once}
 
 abbrev line_of : RootName → PlaceName → Weight → PotLine
 line_of name place weight = record { root = name; place = place; weight = weight }
@@ -73,7 +73,7 @@ module _ (T : Topology) (r : Request) (table : List KeptOfType) (kept : IsKeptTa
   one_name (root.Entry s) (name.Entry d) (name.Entry e) p q = ap name.Entry (same_at b.places s.0 d e p q)
 
   one_state : (place : PlaceName) (x y : StateNo) → IsState b x place → IsState b y place → x ≡ y
-  one_state place x y p q = let same : x.0 ≡ y.0 = one_number b.places x.0 y.0 place built.rise p q in ap (λ n. as_state n) same
+  one_state place x y p q = let same : x.0 ≡ y.0 = states_once b.places x.0 y.0 place built.rise p q in ap (λ n. as_state n) same
 
   one_root : (n : RootName) (s q : Root) → IsRootAt b s (listed.root_place n) → IsRootAt b q (listed.root_place n) → s ≡ q
   one_root name.Request root.Request root.Request x y = refl

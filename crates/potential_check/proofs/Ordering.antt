@@ -4,7 +4,7 @@ use Rattle.std.specs.Prelude.{slice_get}
 use Rattle.std.specs.Ordering.{is_lt, nat_cmp, ordering_reverse}
 use Rattle.std.specs.Option.{option_cmp}
 use Rattle.std.specs.Str.{bytes_eq}
-use Rattle.std.proofs.lemmas.Bool.{cases_lt}
+use Rattle.std.proofs.lemmas.Bool.{cases_lt, or_cases, and_parts}
 use Rattle.std.proofs.lemmas.Bool.Decides.{nat_tests}
 use Rattle.std.proofs.lemmas.Cmp.{tied_itself}
 use Rattle.std.proofs.lemmas.List.{length-take-le}
@@ -13,6 +13,7 @@ use Rattle.std.proofs.lemmas.Slice.Eq.{bytes_eq-Decides}
 use Rattle.ml_base.specs.declared.numbers.Root.{Root}
 use Rattle.ml_base.specs.declared.numbers.Root.TheVariants as root
 use Rattle.ml_base.specs.declared.numbers.StateNo.{StateNo}
+use Rattle.ml_base.proofs.Lists.{same_at}
 use Rattle.segment_grammar.specs.declared.potentials.Pot.{Pot}
 use Rattle.segment_grammar.specs.Pots.{IsAboveLast, IsBelow}
 use Rattle.circuit_spec.specs.declared.hops.PlaceName.{PlaceName}
@@ -25,10 +26,9 @@ use Rattle.answer_spec.specs.declared.answer.RootName.TheVariants as name
 use Rattle.answer_spec.specs.Potentials.{root_place}
 use Rattle.answer_spec.specs.WellFormed.{ArePots, is_pot_below}
 use Rattle.open_places.specs.Places.{IsRising, place_cmp}
-use Rattle.open_places.proofs.Ordered.{below_at, place_below, place_total}
+use Rattle.open_places.proofs.Ordered.{below_at, place_below, place_total, states_once}
 use Rattle.machine_build.specs.Built.{BuiltValue, IsState}
 use Rattle.machine_lift.specs.Lift.{IsRootAt}
-use Rattle.machine_lift.proofs.States.{one_number, same_at}
 use Rattle.potential_check.specs.Pairs.{ArePairsOf, IsPairOf}
 use Rattle.potential_check.proofs.Zipped.{zip_first, zip_length}
 
@@ -43,14 +43,6 @@ same_order (Some m) (Some n) = grind (arith, nat_tests)
 less_below : (a b : PlaceName) → is_lt (place_cmp a b) ≡ is_place_below a b
 less_below a b = place_below a b ∙ ap (λ (t : Bool). is_below a.class b.class || (bytes_eq a.class b.class && t)) (same_order a.label b.label)
 
-both : (p q : Bool) → (p && q) ≡ true → (p ≡ true) × (q ≡ true)
-both true q e = (refl, e)
-both false q e = cc
-
-either : (p q : Bool) → (p || q) ≡ true → (p ≡ true) ⊎ (q ≡ true)
-either true q e = inl refl
-either false q e = inr e
-
 same_tags : (a b : Tag) → same_tag a b ≡ true → a ≡ b
 same_tags None None e = refl
 same_tags None (Some n) e = cc
@@ -62,7 +54,7 @@ place_of class label = record { class = class; label = label }
 
 same_places : (a b : PlaceName) → same_place a b ≡ true → a ≡ b
 same_places a b e =
-    let parts = both (bytes_eq a.class b.class) (same_tag a.label b.label) e in
+    let parts = and_parts (bytes_eq a.class b.class) (same_tag a.label b.label) e in
     ap (λ c. place_of c a.label) ((bytes_eq-Decides a.class b.class).0 parts.0) ∙ ap (place_of b.class) (same_tags a.label b.label parts.1)
 
 -- ---- states
@@ -101,7 +93,7 @@ module _ (b : BuiltValue) (rise : IsRising b.places) where
 
   one_state : (s t : StateNo) (x y : PlaceName) → IsState b s x → IsState b t y → x ≡ y → s ≡ t
   one_state s t x y at_s at_t same =
-      let one : s.0 ≡ t.0 = one_number b.places s.0 t.0 y rise (subst (λ p. IsState b s p) same at_s) at_t in
+      let one : s.0 ≡ t.0 = states_once b.places s.0 t.0 y rise (subst (λ p. IsState b s p) same at_s) at_t in
       ap (λ n. as_state n) one
 
   pairs_rise : (s q : Root) (m n : RootName) (u v : StateNo) (x y : PlaceName) → IsRootAt b s (root_place m) → IsRootAt b q (root_place n)
@@ -115,11 +107,11 @@ module _ (b : BuiltValue) (rise : IsRising b.places) where
   pairs_rise (root.Entry s) root.Request (name.Entry d) (name.Entry e) u v x y at_s at_q at_u at_v below = absurd at_q
   pairs_rise (root.Entry s) (root.Entry t) (name.Entry d) name.Request u v x y at_s at_q at_u at_v below = absurd at_q
   pairs_rise (root.Entry s) (root.Entry t) (name.Entry d) (name.Entry e) u v x y at_s at_q at_u at_v below = go
-      (either (is_place_below d e) (same_place d e && is_place_below x y) below)
+      (or_cases (is_place_below d e) (same_place d e && is_place_below x y) below)
     where
       go : (is_place_below d e ≡ true) ⊎ ((same_place d e && is_place_below x y) ≡ true) → IsBelow (root.Entry s) u (root.Entry t) v
       go (inl l) = inl (states_rise s t d e at_s at_q l)
-      go (inr l) = let parts = both (same_place d e) (is_place_below x y) l in inr
+      go (inr l) = let parts = and_parts (same_place d e) (is_place_below x y) l in inr
           (ap root.Entry (one_state s t d e at_s at_q (same_places d e parts.0)), states_rise u v x y at_u at_v parts.1)
 
   -- ---- lists

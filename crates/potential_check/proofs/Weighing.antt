@@ -1,14 +1,7 @@
 -- The order of weights, and the outcome of the least one.
-use Rattle.std.proofs.Common.{◌≡◌, ◌<◌, ◌≤◌, ◌⊎◌, inl, inr, ap, ◌∙◌, refl, arith}
-use Rattle.ml_base.specs.declared.weight.Weight.{Weight}
+use Rattle.std.proofs.Common.{◌≡◌, ◌<◌, ◌≤◌, ◌⊎◌, inl, inr, refl, arith}
 use Rattle.ml_base.specs.declared.weight.Weight.TheVariants.{Known, Past}
-use Rattle.ml_base.specs.Weight.{IsCappedAtMost}
-
-pub at_most-antisym : (u v : Weight) → IsCappedAtMost u v → IsCappedAtMost v u → u ≡ v
-at_most-antisym (Known a h) (Known b k) x y = go x y
-  where
-    same : a ≡ b → h ≡ k → Known a h ≡ Known b k
-    same e f = ap (λ c. Known c h) e ∙ ap (λ c. Known b c) f
+use Rattle.ml_base.proofs.Laws.{at_most-antisym}
 
     go : (a < b) ⊎ ((a ≡ b) × (h ≤ k)) → (b < a) ⊎ ((b ≡ a) × (k ≤ h)) → Known a h ≡ Known b k
     go (inl p) (inl q) = absurd (omega arith)

@@ -11,6 +11,7 @@ use Rattle.std.proofs.lemmas.Slice.Eq.{bytes_eq-Decides}
 use Rattle.ml_base.specs.declared.numbers.Root.{Root}
 use Rattle.ml_base.specs.declared.numbers.Root.TheVariants as root
 use Rattle.ml_base.specs.declared.numbers.StateNo.{StateNo}
+use Rattle.ml_base.proofs.Lists.{same_at}
 use Rattle.segment_grammar.specs.declared.potentials.Pot.{Pot}
 use Rattle.segment_grammar.specs.Pots.{IsBelow, IsRootBelow, IsRising}
 use Rattle.circuit_spec.specs.declared.hops.PlaceName.{PlaceName}
@@ -27,7 +28,6 @@ use Rattle.open_places.specs.Places.{place_cmp, IsRising as ArePlacesRising}
 use Rattle.open_places.proofs.Ordered.{below_at, place_below}
 use Rattle.machine_build.specs.Built.{BuiltValue, IsState}
 use Rattle.machine_lift.specs.Lift.{IsRootAt}
-use Rattle.machine_lift.proofs.States.{same_at}
 use Rattle.potential_lift.specs.Lines.{AreLinesOf, IsLineOf}
 
 -- Places

@@ -8,6 +8,7 @@ use Rattle.ml_base.specs.declared.numbers.Root.{Root}
 use Rattle.ml_base.specs.declared.numbers.Root.TheVariants as root
 use Rattle.ml_base.specs.declared.weight.Weight.{Weight}
 use Rattle.ml_base.specs.declared.weight.Weight.TheVariants.{Known, Past}
+use Rattle.ml_base.proofs.Lists.{same_at}
 use Rattle.adapt_machine.specs.Walks.{full_weight_of}
 use Rattle.segment_grammar.specs.declared.potentials.Pot.{Pot}
 use Rattle.segment_grammar.specs.Pots.{IsRising, pot}
@@ -26,7 +27,6 @@ use Rattle.knuth_search.specs.Settled.{ArePotentials as AreMachinePotentials}
 use Rattle.machine_build.specs.Built.{BuiltValue, IsState}
 use Rattle.machine_lift.specs.Lift.{AreLifted, IsMachineOf, IsRootAt}
 use Rattle.machine_lift.proofs.Lifted.{lifted, paired}
-use Rattle.machine_lift.proofs.States.{same_at}
 use Rattle.machine_lift.proofs.Weights.{least, reached_back}
 use Rattle.potential_lift.specs.Lines.{AddsLine, AreLinesOf, AreWithin, IsLineOf}
 use Rattle.potential_lift.proofs.Below.{in_order, one_root}

@@ -7,9 +7,10 @@ use Rattle.std.proofs.lemmas.List.{take_more}
 use Rattle.std.proofs.lemmas.List.Elements.{All-cons, All-contains, All-nil, All-push, Contains-append_left, Contains-append_right}
 use Rattle.circuit_spec.specs.declared.hops.PlaceName.{PlaceName}
 use Rattle.circuit_spec.specs.Flags.{flags_after, same_place}
+use Rattle.circuit_spec.proofs.Places.{same_places}
 use Rattle.table_replay.specs.Tabled.{Meets}
 use Rattle.table_replay.specs.Walked.{AreUnset}
-use Rattle.table_replay.proofs.Places.{not_found, same_places}
+use Rattle.table_replay.proofs.Places.{not_found}
 use Rattle.rule_replay.proofs.Running.{cut_at}
 
 IsUnset : Option ℕ → Type 0

@@ -6,6 +6,7 @@ use Rattle.std.proofs.lemmas.Bool.{cases_eq, eq-eqb, ne_eqb}
 use Rattle.std.proofs.lemmas.List.{length-set, get_or-set_same, get_or-set_other, length-replicate, get_or-replicate}
 use Rattle.std.proofs.lemmas.List.Sums.{sum_by-append}
 use Rattle.std.proofs.lemmas.Option.{slice_get_within, get_or_from_slice_get, slice_get-get_or}
+use Rattle.ml_base.proofs.Lists.{at_left, at_end}
 use Rattle.circuit_spec.specs.declared.hops.Hop.{Hop}
 use Rattle.device_rules.specs.declared.rules.Rule.{Rule}
 use Rattle.rule_replay.specs.declared.slots.Slot.{Slot}
@@ -25,20 +26,9 @@ count_yes rules r n e = count_more rules r n ∙ ap (λ (b : Bool). count_of rul
 count_no : (rules : List Rule) (r : Rule) (n : ℕ) → (r.number ≢ n) → count_of (rules ++ r ∷ []) n ≡ count_of rules n
 count_no rules r n e = count_more rules r n ∙ ap (λ (b : Bool). count_of rules n + cond b 1 0) (ne_eqb r.number n e) ∙ omega arith
 
-at_left : (rules : List Rule) (r : Rule) (n : ℕ) (x : Rule) → slice_get rules n ≡ Some x → slice_get (rules ++ r ∷ []) n ≡ Some x
-at_left [] r n x at = cc
-at_left (y ∷ rules) r zero x at = at
-at_left (y ∷ rules) r (suc n) x at = at_left rules r n x at
-
-at_end : (rules : List Rule) (r : Rule) (n : ℕ) → n ≡ length rules → slice_get (rules ++ r ∷ []) n ≡ Some r
-at_end [] r zero e = refl
-at_end [] r (suc n) e = absurd (omega (arith, e))
-at_end (y ∷ rules) r zero e = absurd (omega (arith, e))
-at_end (y ∷ rules) r (suc n) e = at_end rules r n (omega (arith, e))
-
 notes_same : (rules : List Rule) (r : Rule) (n : ℕ) (slot : Slot) → (r.number ≢ n) → Notes rules n slot → Notes (rules ++ r ∷ []) n slot
 notes_same rules r n Missing e notes = count_no rules r n e ∙ notes
-notes_same rules r n (One place) e (once, (rule, at, is)) = (count_no rules r n e ∙ once, (rule, at_left rules r place rule at, is))
+notes_same rules r n (One place) e (once, (rule, at, is)) = (count_no rules r n e ∙ once, (rule, at_left rules (r ∷ []) place rule at, is))
 notes_same rules r n Several e notes = let same = count_no rules r n e in omega (arith, same, notes)
 
 notes_more : (rules : List Rule) (r : Rule) (n place : ℕ) (slot : Slot) → r.number ≡ n → place ≡ length rules → Notes rules n slot → Notes (rules ++ r ∷ []) n (slot_with slot place)

@@ -12,19 +12,11 @@ use Rattle.nml_elements.specs.Labels.{is_among}
 use Rattle.circuit_spec.specs.declared.hops.Request.{Request}
 use Rattle.circuit_spec.specs.declared.hops.Unit.{Unit as DataUnit}
 use Rattle.circuit_spec.specs.Faults.{IsHere, IsKnown, IsKnownEnd}
-use Rattle.circuit_spec.specs.Network.{Name, Tag, Topology, Port, IsClass, IsOpen, Linked, label_type, ports}
+use Rattle.circuit_spec.specs.Network.{Name, Tag, Topology, Port, IsClass, IsOpen, label_type, ports}
 use Rattle.circuit_spec.specs.Steps.{IsWished, Walk, unit_at}
-use Rattle.circuit_spec.proofs.ClassLemmas.{First-unique, class_of_itself}
+use Rattle.circuit_spec.proofs.ClassLemmas.{class_of_itself, one_class, same_class}
 use Rattle.nml_inventory.specs.Relations.{AreClassLabels}
 use Rattle.rule_replay.specs.Ends.{DoAgree, HasPlace, HasWished, IsClassAt, IsClassOf, IsNamedClass}
-
-pub one_class : (T : Topology) (id : Name) (x y : Port) → IsClass T id x → IsClass T id y → x ≡ y
-one_class T id x y f g = First-unique (λ q. Linked T id q.id) (ports T) x y f g
-
--- classes of one name are one
-pub same_class : (T : Topology) (port other : Name) (x y : Port) → IsClass T port x → IsClass T other y → x.id ≡ y.id → x ≡ y
-same_class T port other x y first second same =
-    one_class T y.id x y (subst (λ n. IsClass T n x) same (class_of_itself T port x first)) (class_of_itself T other y second)
 
 pub class_at : (T : Topology) (id : Name) (n : ℕ) (c : IsClassOf T id n) → IsClassAt T n c.class
 class_at T id n c = record { at = c.at; own = class_of_itself T id c.class c.is_class }

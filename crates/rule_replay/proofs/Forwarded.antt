@@ -1,11 +1,12 @@
 -- What is carried in any order is forwarded too, and the answer of a search is carried.
-use Rattle.std.proofs.Common.{◌≡◌, ◌≢◌, ◌⊎◌, inl, inr, ℕ, List, [], ◌∷◌, ◌++◌, Bool, true, false, ◌&&◌, Option, None, Some, Result, Ok, length, map, refl, sym, ◌∙◌, ap, subst}
+use Rattle.std.proofs.Common.{◌≡◌, ◌≢◌, ◌⊎◌, inl, inr, ℕ, List, [], ◌∷◌, ◌++◌, Bool, true, false, ◌&&◌, Option, None, Some, Ok, length, map, refl, sym, ◌∙◌, ap, subst}
 use Rattle.std.specs.Prelude.{◌↔◌, IsTrue, is_none}
 use Rattle.std.specs.List.{All}
 use Rattle.std.specs.List.Sorted.{IsPermutation}
 use Rattle.std.proofs.lemmas.Bool.{and_parts}
 use Rattle.std.proofs.lemmas.List.Elements.{All-cons, All-head, All-nil, All-tail}
 use Rattle.std.proofs.lemmas.List.Sorted.{IsPermutation-map, IsPermutation-trans}
+use Rattle.ml_base.proofs.Lists.{one_ok}
 use Rattle.circuit_spec.specs.declared.hops.Hop.{Hop}
 use Rattle.circuit_spec.specs.declared.hops.Outcome.{Outcome}
 use Rattle.circuit_spec.specs.declared.hops.Outcome.TheVariants.{Found, NoWalk, Past, Long}
@@ -14,6 +15,7 @@ use Rattle.circuit_spec.specs.declared.hops.Request.{Request}
 use Rattle.circuit_spec.specs.Flags.{flags_after}
 use Rattle.circuit_spec.specs.Network.{Topology, Port}
 use Rattle.circuit_spec.specs.Steps.{Ends, Joins, Walk, unit_at}
+use Rattle.circuit_spec.proofs.ClassLemmas.{one_class}
 use Rattle.device_rules.specs.declared.rules.Rule.{Rule}
 use Rattle.line_text.specs.Lines.{text_of}
 use Rattle.device_rules.specs.Numbering.{numbered}
@@ -35,7 +37,6 @@ use Rattle.answer_spec.proofs.Carried.{begins_with}
 use Rattle.rule_replay.specs.declared.replayed.Replayed.TheVariants.{Carried}
 use Rattle.rule_replay.specs.Laws.{IsForwardedToo, are_unset, end_of}
 use Rattle.rule_replay.specs.Replaying.{AreByNumber, IsFound, IsReplayed, IsUnflagged, Spells}
-use Rattle.rule_replay.proofs.Ending.{one_class}
 use Rattle.rule_replay.proofs.Numbers.{hops_numbered}
 use Rattle.rule_replay.proofs.Running.{one_entry}
 
@@ -43,9 +44,6 @@ use Rattle.rule_replay.proofs.Running.{one_entry}
 
 read_again : (a : Answer) → IsWellFormed a → answer_in (text_of (lines_of a)) ≡ Ok a
 read_again a w = text_read answer_step answer_end Nothing (lines_of a) a (lines_whole a w) (document_only a w)
-
-one_ok : (r : Result Answer ℕ) (a b : Answer) → r ≡ Ok a → r ≡ Ok b → a ≡ b
-one_ok r a b e f = cc
 
 pub one_text : (a b : Answer) (bytes : List ℕ) → Spells bytes a → Spells bytes b → a ≡ b
 one_text a b bytes (w, e) (v, f) = one_ok (answer_in bytes) a b (ap answer_in e ∙ read_again a w) (ap answer_in f ∙ read_again b v)

@@ -4,6 +4,7 @@ use Rattle.std.specs.Prelude.{slice_get}
 use Rattle.std.specs.List.{Contains, remove}
 use Rattle.std.specs.List.Sorted.{IsPermutation}
 use Rattle.std.proofs.lemmas.List.Sorted.{Contains-permutation, IsPermutation-cons, IsPermutation-refl, IsPermutation-remove, IsPermutation-sym, IsPermutation-trans, length_permutation}
+use Rattle.std.proofs.lemmas.List.{nil_from_length}
 use Rattle.circuit_spec.specs.declared.hops.Hop.{Hop}
 use Rattle.device_rules.specs.declared.rules.Rule.{Rule}
 use Rattle.device_rules.specs.Numbering.{numbered}
@@ -14,12 +15,8 @@ use Rattle.rule_replay.specs.Slots.{AreFirstByNumber, HasRule}
 abbrev make_rule : ℕ → Hop → Rule
 make_rule n hop = record { number = n; hop = hop }
 
-empty_list : {A : Type 0} (xs : List A) → length xs ≡ 0 → xs ≡ []
-empty_list [] e = refl
-empty_list (x ∷ xs) e = absurd (omega (arith, e))
-
 moved_from : (hops : List Hop) (n : ℕ) (rules : List Rule) → length rules ≡ length hops → ((k : ℕ) (hop : Hop) → slice_get hops k ≡ Some hop → HasRule rules (n + k) hop) → IsPermutation (numbered n hops) rules
-moved_from [] n rules long each = subst (λ rs. IsPermutation [] rs) (sym (empty_list rules long)) (IsPermutation-refl [])
+moved_from [] n rules long each = subst (λ rs. IsPermutation [] rs) (sym (nil_from_length rules long)) (IsPermutation-refl [])
 moved_from (h ∷ hops) n rules long each =
     IsPermutation-trans (numbered n (h ∷ hops)) (make_rule n h ∷ left) rules (IsPermutation-cons (make_rule n h) (numbered (suc n) hops) left (moved_from hops (suc n) left shorter later)) (IsPermutation-sym rules (make_rule n h ∷ left) out)
   where

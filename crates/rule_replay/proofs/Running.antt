@@ -9,10 +9,9 @@ use Rattle.circuit_spec.specs.Network.{Topology, Port, IsClass, IsOpen, Linked, 
 use Rattle.circuit_spec.specs.Segments.{unit_in}
 use Rattle.circuit_spec.specs.Steps.{Run, Step}
 use Rattle.circuit_spec.proofs.ClassLemmas.{First-unique}
-use Rattle.packet_replay.proofs.Stepping.{one_next}
+use Rattle.circuit_spec.proofs.NextUnit.{one_next, step_height}
 use Rattle.table_replay.specs.Forwarding.{place_of}
 use Rattle.table_replay.proofs.Places.{make_place}
-use Rattle.table_replay.proofs.Turning.{step_grows}
 use Rattle.rule_replay.specs.declared.replayed.ReplayCause.{ReplayCause}
 use Rattle.rule_replay.specs.Carrying.{HasPassed, IsRefusedAt, Passes}
 use Rattle.rule_replay.specs.Replaying.{Refuses}
@@ -69,7 +68,7 @@ module _ (T : Topology) where
     pub passed_on : (hops : List Hop) (n : ℕ) (d : Hop) (u v : DataUnit) (places after : List PlaceName) (answer : Option ReplayCause) → n < length hops → HasPassed T start (take n hops) u places → Passes T (get_or hops n d) u v places after answer → answer ≡ None
         → HasPassed T start (take (n + 1) hops) v after × (length v.stack ≤ length u.stack + 1)
     passed_on hops n d u v places after None within passed (step, grown) e =
-        (subst (λ hs. HasPassed T start hs v after) (sym (take_more hops n d within)) (passed_more (take n hops) (get_or hops n d) u v places after passed step grown), step_grows T u (get_or hops n d) v step)
+        (subst (λ hs. HasPassed T start hs v after) (sym (take_more hops n d within)) (passed_more (take n hops) (get_or hops n d) u v places after passed step grown), step_height T u (get_or hops n d) v step)
     passed_on hops n d u v places after (Some why) within passed refused e = absurd (cc)
 
     -- a hop is refused

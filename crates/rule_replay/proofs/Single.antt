@@ -9,10 +9,11 @@ use Rattle.circuit_spec.specs.Faults.{IsKnown}
 use Rattle.circuit_spec.specs.Network.{Topology, Port, IsClass}
 use Rattle.circuit_spec.specs.Segments.{unit_in}
 use Rattle.circuit_spec.specs.Steps.{Run, Step, Walk}
+use Rattle.circuit_spec.proofs.ClassLemmas.{one_class}
+use Rattle.circuit_spec.proofs.NextUnit.{one_next}
 use Rattle.packet_replay.specs.declared.faults.StepFault.{StepFault}
 use Rattle.packet_replay.specs.declared.faults.StepFault.TheVariants as step
 use Rattle.packet_replay.proofs.Refusing.{one_refusal, refusal_tells}
-use Rattle.packet_replay.proofs.Stepping.{one_next}
 use Rattle.line_text.specs.Lines.{text_of}
 use Rattle.answer_spec.specs.declared.answer.Answer.{Answer}
 use Rattle.answer_spec.specs.Certificate.{AreCarried, first_place}
@@ -24,7 +25,6 @@ use Rattle.rule_replay.specs.declared.replayed.ReplayCause.{ReplayCause}
 use Rattle.rule_replay.specs.declared.replayed.ReplayCause.TheVariants as cause
 use Rattle.rule_replay.specs.Carrying.{IsToldOfHops}
 use Rattle.rule_replay.specs.Replaying.{AreByNumber, IsAsked, IsFirstMisnumbered, IsFirstRefused, IsFound, IsOrdered, IsReplayed, IsUnflagged, Refuses, Spells}
-use Rattle.rule_replay.proofs.Ending.{one_class}
 use Rattle.rule_replay.proofs.Numbers.{misnumbered_one, not_misnumbered, one_by_number}
 
 -- ---- refusals

@@ -13,7 +13,7 @@ use Rattle.circuit_spec.specs.Flags.{AreFlags, Enters, flags_after, same_place}
 use Rattle.circuit_spec.specs.Network.{Name, Topology, Port, IsClass, IsOpen, Linked, ports}
 use Rattle.circuit_spec.specs.Segments.{unit_in}
 use Rattle.circuit_spec.specs.Steps.{IsAllowed, Run, Walk, unit_at}
-use Rattle.circuit_spec.proofs.ClassLemmas.{First-unique, class_of_itself}
+use Rattle.circuit_spec.proofs.ClassLemmas.{First-unique, class_of_itself, one_class, same_class}
 use Rattle.table_replay.specs.Walked.{AreUnset}
 use Rattle.answer_spec.specs.declared.answer.Answer.{Answer}
 use Rattle.answer_spec.specs.Certificate.{AreCarried, first_place}
@@ -26,7 +26,6 @@ use Rattle.rule_replay.specs.Carrying.{HasPassed, IsFirstPlace, IsRefusedAt, IsT
 use Rattle.rule_replay.specs.Ends.{IsAtEnd}
 use Rattle.rule_replay.specs.Replaying.{AreByNumber, IsAsked, IsFirstMisnumbered, IsFirstRefused, IsReplayed, IsUnflagged}
 use Rattle.rule_replay.proofs.Running.{one_entry, one_run, run_open}
-use Rattle.rule_replay.proofs.Ending.{one_class, same_class}
 
 -- no hops
 pub none_carried : (T : Topology) (r : Request) → Walk T r [] → IsToldOfHops T r [] (Carried 0 true)

@@ -1,12 +1,13 @@
 -- What is answered is how forwarding ends.
 use Rattle.std.proofs.Common.{◌≡◌, ◌⊎◌, inl, inr, List, [], ◌∷◌, ◌++◌, Result, Ok, Err, length, refl, sym, ◌∙◌, ap, subst, append_assoc}
 use Rattle.std.specs.Prelude.{IfOk, IfErr}
+use Rattle.std.proofs.lemmas.List.{append-nil}
 use Rattle.circuit_spec.specs.declared.hops.Hop.{Hop}
 use Rattle.circuit_spec.specs.declared.hops.PlaceName.{PlaceName}
 use Rattle.circuit_spec.specs.declared.hops.Unit.{Unit as DataUnit}
 use Rattle.circuit_spec.specs.Network.{Topology}
 use Rattle.circuit_spec.specs.Segments.{unit_in}
-use Rattle.packet_replay.proofs.Stepping.{one_next}
+use Rattle.circuit_spec.proofs.NextUnit.{one_next}
 use Rattle.device_rules.specs.declared.rules.Rule.{Rule}
 use Rattle.table_replay.specs.declared.fault.ForwardFault.{ForwardFault}
 use Rattle.table_replay.specs.declared.fault.ForwardFault.TheVariants as why
@@ -15,10 +16,6 @@ use Rattle.table_replay.specs.Tabled.{Arrives, Continues, StopsOrFails, Takes}
 use Rattle.table_replay.specs.Walked.{AreRulesInAnyOrder, IsPlainWalk}
 use Rattle.table_replay.proofs.One.{one_forwarding}
 use Rattle.table_replay.proofs.Plain.{plain_forwarded}
-
-then_none : {A : Type 0} (xs : List A) → xs ++ [] ≡ xs
-then_none [] = refl
-then_none (x ∷ xs) = ap (λ l. x ∷ l) (then_none xs)
 
 module _ (T : Topology) (rules : List Rule) (start target : PlaceName) where
   -- before the first turn
@@ -38,7 +35,7 @@ module _ (T : Topology) (rules : List Rule) (start target : PlaceName) where
   stops met u taken fault before (inr stop) = inr (taken ++ [], before [] (stopped fault) stop)
 
   pub arrives : (met : List PlaceName) (u : DataUnit) (taken : List Hop) (result : Result (List Hop) ForwardFault) → Continues T rules start target met u taken → place_of u ≡ target → Arrives u taken result → IfOk result (λ hops. ForwardsFrom T rules start target hops arrived)
-  arrives met u taken (Ok list) before at end = subst (λ l. ForwardsFrom T rules start target l arrived) (then_none taken ∙ sym end.1) (before [] arrived (at, end.0))
+  arrives met u taken (Ok list) before at end = subst (λ l. ForwardsFrom T rules start target l arrived) (append-nil taken ∙ sym end.1) (before [] arrived (at, end.0))
   arrives met u taken (Err fault) before at end = tt
 
   pub leaves : (met : List PlaceName) (u : DataUnit) (taken : List Hop) (result : Result (List Hop) ForwardFault) → Continues T rules start target met u taken → place_of u ≡ target → Arrives u taken result → IfErr result (IsFault T rules start target)

@@ -11,9 +11,10 @@ use Rattle.circuit_spec.specs.declared.hops.PlaceName.{PlaceName}
 use Rattle.circuit_spec.specs.Flags.{same_place}
 use Rattle.circuit_spec.specs.Network.{Topology, Port, IsClass, Linked, ports}
 use Rattle.circuit_spec.proofs.ClassLemmas.{First-unique}
+use Rattle.circuit_spec.proofs.Places.{same_places, place_itself}
 use Rattle.device_rules.specs.declared.rules.Rule.{Rule}
 use Rattle.table_replay.specs.Forwarding.{AreLeaving, LeavesFrom}
-use Rattle.table_replay.proofs.Places.{contains_cases, place_itself, same_places}
+use Rattle.table_replay.proofs.Places.{contains_cases}
 
 -- a hop, and the place that it leaves from
 abbrev pub Leaver : Type 0

@@ -1,37 +1,17 @@
 -- The test of two places says whether they are the same.
-use Rattle.std.proofs.Common.{◌≡◌, List, [], ◌∷◌, ◌++◌, Bool, true, false, ◌&&◌, ◌||◌, not, Option, None, Some, cond, ℕ, ◌+◌, ◌⊎◌, inl, inr, refl, sym, ◌∙◌, ap, subst, arith}
-use Rattle.std.specs.Bool.{Decides}
+use Rattle.std.proofs.Common.{◌≡◌, List, [], ◌∷◌, ◌++◌, Bool, true, false, ◌||◌, not, Option, None, Some, cond, ℕ, ◌+◌, ◌⊎◌, inl, inr, refl, sym, ◌∙◌, subst, arith}
 use Rattle.std.specs.List.{Contains, list_any, position, position_from}
-use Rattle.std.specs.Str.{bytes_eq}
-use Rattle.std.proofs.lemmas.Bool.{eq-eqb, eqb-true, or_cases, or_left, or_right}
+use Rattle.std.proofs.lemmas.Bool.{or_cases, or_left, or_right}
 use Rattle.std.proofs.lemmas.Iterator.Adapters.{position_from-zero}
 use Rattle.std.proofs.lemmas.List.Elements.{Contains-append_cases, Contains-append_left, Contains-append_right, Contains-push_cases}
-use Rattle.std.proofs.lemmas.Slice.Eq.{bytes_eq-Decides}
 use Rattle.circuit_spec.specs.declared.hops.PlaceName.{PlaceName}
-use Rattle.circuit_spec.specs.Flags.{same_place, same_tag}
+use Rattle.circuit_spec.specs.Flags.{same_place}
 use Rattle.circuit_spec.specs.Network.{Name, Tag}
+use Rattle.circuit_spec.proofs.Places.{same_places, place_itself}
 use Rattle.table_replay.specs.Tabled.{Meets}
-
-tag_decides : (x y : Tag) → Decides (same_tag x y) (x ≡ y)
-tag_decides None None = (λ e. refl, λ e. refl)
-tag_decides None (Some n) = (λ e. absurd (cc), λ e. absurd (cc))
-tag_decides (Some m) None = (λ e. absurd (cc), λ e. absurd (cc))
-tag_decides (Some m) (Some n) = (λ e. ap Some (eqb-true m n e), λ e. let same : m ≡ n = cc in eq-eqb m n same)
 
 abbrev pub make_place : Name → Tag → PlaceName
 make_place class label = record { class = class; label = label }
-
-both_true : (a b : Bool) → a && b ≡ true → (a ≡ true) × (b ≡ true)
-both_true true b e = (refl, e)
-both_true false b e = absurd (cc)
-
-pub same_places : (x y : PlaceName) → same_place x y ≡ true → x ≡ y
-same_places x y e =
-    let parts = both_true (bytes_eq x.class y.class) (same_tag x.label y.label) e in
-    ap (λ c. make_place c x.label) ((bytes_eq-Decides x.class y.class).0 parts.0) ∙ ap (make_place y.class) ((tag_decides x.label y.label).0 parts.1)
-
-pub place_itself : (x : PlaceName) → same_place x x ≡ true
-place_itself x = ap (λ b. b && same_tag x.label x.label) ((bytes_eq-Decides x.class x.class).1 refl) ∙ (tag_decides x.label x.label).1 refl
 
 pub contains_cases : {A : Type 0} (x y : A) (xs : List A) → Contains (x ∷ xs) y → (x ≡ y) ⊎ Contains xs y
 contains_cases x y xs held = go (Contains-append_cases (x ∷ []) xs y held)

@@ -1,21 +1,23 @@
 -- What the slots of places say when one rule more is put to them.
-use Rattle.std.proofs.Common.{◌≡◌, ◌≢◌, ◌⊎◌, inl, inr, ℕ, zero, suc, ◌+◌, ◌<◌, List, [], ◌∷◌, ◌++◌, Bool, true, false, Option, None, Some, length, take, refl, sym, ◌∙◌, ap, subst, arith}
+use Rattle.std.proofs.Common.{◌≡◌, ◌≢◌, ◌⊎◌, inl, inr, ℕ, ◌+◌, ◌<◌, List, [], ◌∷◌, ◌++◌, Bool, true, false, Option, None, Some, length, take, refl, sym, ◌∙◌, ap, subst}
 use Rattle.std.specs.Prelude.{option_map, slice_get}
 use Rattle.ml_base.specs.declared.numbers.PortNo.{PortNo}
+use Rattle.ml_base.proofs.Lists.{one_of_some, at_left, at_end}
 use Rattle.circuit_spec.specs.declared.hops.Hop.{Hop}
 use Rattle.circuit_spec.specs.declared.hops.PlaceName.{PlaceName}
 use Rattle.circuit_spec.specs.Flags.{same_place}
 use Rattle.circuit_spec.specs.Network.{Name, Tag, Topology, Port, IsClass, Linked, ports}
 use Rattle.circuit_spec.proofs.ClassLemmas.{First-unique}
+use Rattle.circuit_spec.proofs.Places.{same_places, place_itself}
 use Rattle.nml_inventory.specs.Aliases.{IsClassNumber}
 use Rattle.nml_inventory.specs.Numbers.{port_number}
-use Rattle.packet_replay.proofs.Named.{end_found, one_of_some}
+use Rattle.packet_replay.proofs.Named.{end_found}
 use Rattle.device_rules.specs.declared.rules.Rule.{Rule}
 use Rattle.table_replay.specs.declared.table.Slot.{Slot}
 use Rattle.table_replay.specs.declared.table.Slot.TheVariants.{One, Several}
 use Rattle.table_replay.specs.Forwarding.{AreLeaving, LeavesFrom}
 use Rattle.table_replay.specs.Tabled.{AddsRule, AreSlots, Tells, slot_at, slot_with}
-use Rattle.table_replay.proofs.Places.{make_place, place_itself, same_places}
+use Rattle.table_replay.proofs.Places.{make_place}
 
 -- two places that are not the same are told apart
 pub apart_test : (x y : PlaceName) → (y ≢ x) → same_place x y ≡ false
@@ -32,17 +34,6 @@ place_found T text id port class label name shared same e c named is =
     let found = end_found T text id port class same e c in
     let other : Some found.0.id ≡ Some name = sym (ap (option_map (λ (p : Port). p.id)) found.1.class_at) ∙ named in
     (found.0, found.1.is_class, ap (λ n. make_place n label) (is ∙ sym (one_of_some other)))
-
-at_left : (rules : List Rule) (r : Rule) (n : ℕ) (x : Rule) → slice_get rules n ≡ Some x → slice_get (rules ++ r ∷ []) n ≡ Some x
-at_left [] r n x at = cc
-at_left (y ∷ rules) r zero x at = at
-at_left (y ∷ rules) r (suc n) x at = at_left rules r n x at
-
-at_end : (rules : List Rule) (r : Rule) (n : ℕ) → n ≡ length rules → slice_get (rules ++ r ∷ []) n ≡ Some r
-at_end [] r zero e = refl
-at_end [] r (suc n) e = absurd (omega (arith, e))
-at_end (y ∷ rules) r zero e = absurd (omega (arith, e))
-at_end (y ∷ rules) r (suc n) e = at_end rules r n (omega (arith, e))
 
 module _ (T : Topology) where
   one_place : (rule : Rule) (x y : PlaceName) → LeavesFrom T x rule → LeavesFrom T y rule → x ≡ y
@@ -67,7 +58,7 @@ module _ (T : Topology) where
 
   told_same : (x : PlaceName) (r : Rule) (rules : List Rule) (s : Option Slot) → (LeavesFrom T x r → ⊥) → Tells T rules x s → Tells T (rules ++ r ∷ []) x s
   told_same x r rules None apart are = leaving_same x r rules [] apart are
-  told_same x r rules (Some (One m)) apart (one, at, are) = (one, at_left rules r m one at, leaving_same x r rules (one ∷ []) apart are)
+  told_same x r rules (Some (One m)) apart (one, at, are) = (one, at_left rules (r ∷ []) m one at, leaving_same x r rules (one ∷ []) apart are)
   told_same x r rules (Some Several) apart (one, other, more, are) = (one, other, more, leaving_same x r rules (one ∷ other ∷ more) apart are)
 
   pub slots_more : (rules all : List Rule) (r : Rule) (old new : List (PlaceName × Slot)) (place : PlaceName) (n : ℕ) → all ≡ rules ++ r ∷ [] → n ≡ length rules → LeavesFrom T place r → AreSlots T rules old → AddsRule old new place n → AreSlots T all new

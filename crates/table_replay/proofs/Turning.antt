@@ -1,18 +1,16 @@
 -- One turn: a rule is taken, or is no hop of the unit.
-use Rattle.std.proofs.Common.{◌≡◌, ◌≢◌, ◌⊎◌, inl, inr, ℕ, ◌+◌, ◌<◌, ◌≤◌, List, [], ◌∷◌, ◌++◌, Bool, true, false, Option, None, Some, length, refl, sym, ◌∙◌, ap, subst, arith, get_or}
+use Rattle.std.proofs.Common.{◌≡◌, ◌≢◌, ◌⊎◌, inl, inr, ℕ, ◌+◌, ◌<◌, List, [], ◌∷◌, ◌++◌, Bool, true, false, Option, None, Some, length, refl, sym, ◌∙◌, ap, subst, arith, get_or}
 use Rattle.std.specs.Prelude.{slice_get}
 use Rattle.std.specs.List.{Contains}
-use Rattle.std.proofs.lemmas.List.{length_push}
 use Rattle.std.proofs.lemmas.List.Elements.{Contains-append_left, Contains-push}
 use Rattle.std.proofs.lemmas.Option.{get_or_from_slice_get, slice_get_within}
-use Rattle.nml_elements.specs.declared.elements.Element.{Element}
 use Rattle.nml_elements.specs.declared.elements.Element.TheVariants as element
-use Rattle.circuit_spec.specs.declared.hops.Frame.{Frame}
 use Rattle.circuit_spec.specs.declared.hops.Hop.{Hop}
 use Rattle.circuit_spec.specs.declared.hops.PlaceName.{PlaceName}
 use Rattle.circuit_spec.specs.declared.hops.Unit.{Unit as DataUnit}
-use Rattle.circuit_spec.specs.Network.{Topology, Port}
-use Rattle.circuit_spec.specs.Steps.{Rule as HopRule, Step, frame_of}
+use Rattle.circuit_spec.specs.Network.{Topology}
+use Rattle.circuit_spec.specs.Steps.{Step}
+use Rattle.circuit_spec.proofs.NextUnit.{step_height}
 use Rattle.packet_replay.specs.Carried.{Carried}
 use Rattle.device_rules.specs.declared.rules.Rule.{Rule}
 use Rattle.table_replay.specs.declared.fault.ForwardFault.TheVariants as why
@@ -20,19 +18,6 @@ use Rattle.table_replay.specs.declared.table.Slot.{Slot}
 use Rattle.table_replay.specs.declared.table.Slot.TheVariants.{One, Several}
 use Rattle.table_replay.specs.Forwarding.{AreLeaving, GoesOn, IsAwayAnew, place_of}
 use Rattle.table_replay.specs.Tabled.{IsReady, Meets, Moves, StopsOrFails, Takes, Tells, slot_at}
-
--- a step puts one frame on at most
-rule_grows : (T : Topology) (h : Hop) (from to : Port) (e : Element) (old new : List Frame) → HopRule T h from to e old new → length new ≤ length old + 1
-rule_grows T h from to (element.Link l) old new r = let e = ap length r.5 in omega (arith, e)
-rule_grows T h from to (element.Switching s) old new r = let e = ap length r.4 in omega (arith, e)
-rule_grows T h from to (element.Adaptation a) old new r = let e : length new ≡ length old + 1 = ap length r.3 ∙ length_push old (frame_of a.function from h.from_label) in omega (arith, e)
-rule_grows T h from to (element.Deadaptation a) old new r = let e : length old ≡ length new + 1 = ap length r.3 ∙ length_push new (frame_of a.function to h.to_label) in omega (arith, e)
-rule_grows T h from to (element.Conversion c) old new r = let e = ap length r.3 in omega (arith, e)
-rule_grows T h from to (element.Node n) old new r = absurd r
-rule_grows T h from to (element.Port p) old new r = absurd r
-
-pub step_grows : (T : Topology) (u : DataUnit) (h : Hop) (v : DataUnit) → Step T u h v → length v.stack ≤ length u.stack + 1
-step_grows T u h v step = rule_grows T h step.from step.to step.placed.element u.stack v.stack step.rule
 
 -- the place is new, where the answer of meeting it says so
 is_new : (old new : List PlaceName) (place : PlaceName) (b : Bool) → Meets old new place b → b ≡ true → (¬ Contains old place) × (new ≡ old ++ place ∷ [])
@@ -89,7 +74,7 @@ module _ (T : Topology) (rules : List Rule) (target : PlaceName) (old : Carried)
           let gone : Contains met place → ⊥ = λ held. unmet (subst (λ l. Contains l place) (sym anew.1) (Contains-append_left met (at ∷ []) place held)) in
           let other : place ≡ at → ⊥ = λ same. unmet (subst (λ l. Contains l place) (sym anew.1) (subst (λ p. Contains (met ++ p ∷ []) place) same (Contains-push met place))) in
           subst (Tells T rules place) (sym (others place other)) (ready.tells place gone);
-      room = let grows = step_grows T old.unit (get_or rules n d).hop new.unit step in
+      room = let grows = step_height T old.unit (get_or rules n d).hop new.unit step in
           let before = ready.room in
           omega (arith, grows, before, fewer, room);
     }

@@ -1,9 +1,10 @@
 use Rattle.std.proofs.Common.{◌<◌, ◌≤◌, ◌∷◌, [], length, take, get_or, refl, ◌∙◌, ap, arith}
 use Rattle.circuit_spec.specs.Flags.{flags_after}
 use Rattle.circuit_spec.specs.Segments.{unit_in}
+use Rattle.circuit_spec.proofs.Flags.{length-flags_after, length-enters}
 use Rattle.answer_spec.specs.Certificate.{first_place}
 use Rattle.hop_check.specs.Visits.{first_at}
-use Rattle.hop_check.proofs.Visited.{all_flags, class_behind, flag_here, length-enters, length-flags_after, one_more_flag, other_flag, visited_before}
+use Rattle.hop_check.proofs.Visited.{all_flags, class_behind, flag_here, one_more_flag, other_flag, visited_before}
 use Rattle.hop_check.proofs.Walking.{entered}
 use Rattle.hop_check.proofs.flagging.check_flags.Goals as goal
 

@@ -1,6 +1,6 @@
 use Rattle.std.proofs.Common.{[]}
 use Rattle.circuit_spec.specs.Segments.{unit_in}
-use Rattle.packet_replay.proofs.Stepping.{one_next}
+use Rattle.circuit_spec.proofs.NextUnit.{one_next}
 use Rattle.table_replay.proofs.One.{one_forwarding}
 use Rattle.table_replay.proofs.laws.forwarding_is_one.Goals as goal
 

@@ -1,6 +1,6 @@
 use Rattle.std.proofs.Common.{◌++◌, ◌∷◌, [], List, map, slice_set, refl, sym, subst}
 use Rattle.std.specs.Rc.{rc_str_bytes}
-use Rattle.nml_inventory.proofs.PortNumbers.{some_at}
+use Rattle.ml_base.proofs.Lists.{some_at}
 use Rattle.kept_table.specs.declared.gathered.TypeTests.{TypeTests}
 use Rattle.kept_table.specs.Gathering.{AddsSet, AreByType}
 use Rattle.kept_table.proofs.Adding.{by_type_set, set_added}
