@@ -14,7 +14,7 @@ use Rattle.circuit_spec.specs.Faults.{layer_faults, switch_at, switch_faults}
 use Rattle.nml_inventory.specs.Relations.{AreNumbersOf, IsTwin, numbers_where, is_inbound, is_outbound}
 use Rattle.layer_check.specs.Elements.{IsRepeat, of_option, switch_faults_at, switch_faults_of}
 use Rattle.circuit_spec.proofs.Lists.{both_empty}
-use Rattle.layer_check.proofs.Once.{one_of_some}
+use Rattle.ml_base.proofs.Lists.{one_of_some}
 use Rattle.layer_check.proofs.OfElements.{service_is}
 
 -- Tests that the same numbers pass
