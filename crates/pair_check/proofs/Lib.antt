@@ -4,4 +4,5 @@ pub mod Listed
 pub mod Ranges
 pub mod Leaving
 pub mod Nested
+pub mod Overtaking
 pub mod Lesser

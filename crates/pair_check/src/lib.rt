@@ -10,7 +10,8 @@
 //!
 //! Contracts see the rules as `KeepsRules` and a fault as `IsFaultOf` (`specs/Rules`). Nothing is searched for: each rule looks up what
 //! the listed pairs lead to. The exits of what is entered with a frame are found once, and the places of the pairs of a root are noted by
-//! state before the first of them is judged. These notes serve speed alone, and contracts do not see them.
+//! state before the first of them is judged. Where pairs of one root push the same frame into the same state, a later one that weighs no
+//! less is not looked up. These notes serve speed alone, and contracts do not see them.
 #![tactic(auto)]
 
 mod beginning;
@@ -26,6 +27,7 @@ mod opening;
 #[cfg(test)]
 mod tests;
 mod under;
+mod ways;
 
 pub use checking::check_pairs;
 pub use fault::PairFault;
