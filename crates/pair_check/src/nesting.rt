@@ -2,13 +2,14 @@ ghost use Rattle.std.specs.Prelude.{◌≡◌, ◌↔◌, ◌<◌, IsTrue, List,
 ghost use Rattle.std.specs.List.{All};
 ghost use Rattle.ml_base.specs.declared.numbers.StateNo.{StateNo};
 ghost use Rattle.segment_grammar.specs.Index.{IsIndexOf};
-ghost use Rattle.pair_check.specs.Exits.{AreFound, LeadsOut, NestsBy};
+ghost use Rattle.pair_check.specs.Exits.{AreFound, ArePopsIn, LeadsOut, NestsBy};
 ghost use Rattle.pair_check.specs.Rules.{ArePairsWithin, BeginAtZero, IsExtended, IsFaultOf, IsNested, IsOpened};
 
 use crate::exits::{Exit, FoundExits, find_exits};
 use crate::extending::leads_on;
 use crate::fault::PairFault;
 use crate::noted::{Noted, note_root};
+use crate::pops::{Steps, pops_by_frame};
 use crate::ways::{Ways, weight_by};
 use adapt_machine::Machine;
 use ml_base::{NoMemory, Root, StepNo, Weight};
@@ -48,20 +49,23 @@ fn nests_by(
     alloc: Global,
     found: &mut FoundExits,
     machine: &Machine,
-    index: &Index,
+    steps: Steps<'_>,
     noted: &Noted,
     pair: Pot,
     push: StepNo,
 ) -> Result<bool, NoMemory>
     requires below { push.0 < length machine.now.steps }
-    requires indexed { IsIndexOf machine.now index.now }
+    requires indexed { IsIndexOf machine.now steps.index.now }
+    requires popped { ArePopsIn machine.now.steps (length machine.now.steps) steps.pops.now }
     requires found { AreFound machine.now.steps noted.now.pots.now found.old.entries }
     ensures found { IfOk result (λ _. AreFound machine.now.steps noted.now.pots.now found.new.entries) }
     ensures nests { IfOk result (λ yes. IsTrue yes ↔ NestsBy machine.now.steps noted.now.pots.now pair push) }
 {
     let _states = machine.states();
     let step = machine.step(push);
-    find_exits(alloc, found, index, noted.pots, step.to, step.frame)?;
+    find_exits(
+        alloc, found, machine, steps, noted.pots, step.to, step.frame,
+    )?;
     let Some(exits) = found.get(&(step.to.0, step.frame.0)) else {
         unreachable!()
     };
@@ -76,14 +80,15 @@ fn nests_once(
     found: &mut FoundExits,
     ways: &mut Ways,
     machine: &Machine,
-    index: &Index,
+    steps: Steps<'_>,
     noted: &Noted,
     place: u64,
     pair: Pot,
     push: StepNo,
 ) -> Result<bool, NoMemory>
     requires below { push.0 < length machine.now.steps }
-    requires indexed { IsIndexOf machine.now index.now }
+    requires indexed { IsIndexOf machine.now steps.index.now }
+    requires popped { ArePopsIn machine.now.steps (length machine.now.steps) steps.pops.now }
     requires before { All (IsNested machine.now.steps noted.now.pots.now) (take place noted.now.pots.now) }
     requires found { AreFound machine.now.steps noted.now.pots.now found.old.entries }
     ensures found { IfOk result (λ _. AreFound machine.now.steps noted.now.pots.now found.new.entries) }
@@ -93,7 +98,7 @@ fn nests_once(
     if ways.overtake(machine, noted.pots, place, pair, step) {
         return Ok(true);
     }
-    let nests = nests_by(alloc, found, machine, index, noted, pair, push)?;
+    let nests = nests_by(alloc, found, machine, steps, noted, pair, push)?;
     ways.note(place, push, step)?;
     Ok(nests)
 }
@@ -104,21 +109,22 @@ fn is_nested(
     found: &mut FoundExits,
     ways: &mut Ways,
     machine: &Machine,
-    index: &Index,
+    steps: Steps<'_>,
     noted: &Noted,
     place: u64,
     pair: Pot,
 ) -> Result<bool, NoMemory>
-    requires indexed { IsIndexOf machine.now index.now }
+    requires indexed { IsIndexOf machine.now steps.index.now }
+    requires popped { ArePopsIn machine.now.steps (length machine.now.steps) steps.pops.now }
     requires within { pair.state.0 < machine.now.states }
     requires before { All (IsNested machine.now.steps noted.now.pots.now) (take place noted.now.pots.now) }
     requires found { AreFound machine.now.steps noted.now.pots.now found.old.entries }
     ensures found { IfOk result (λ _. AreFound machine.now.steps noted.now.pots.now found.new.entries) }
     ensures nests { IfOk result (λ yes. IsTrue yes ↔ IsNested machine.now.steps noted.now.pots.now pair) }
 {
-    for push in index.pushes(pair.state) {
+    for push in steps.index.pushes(pair.state) {
         let nests = nests_once(
-            alloc, found, ways, machine, index, noted, place, pair, *push,
+            alloc, found, ways, machine, steps, noted, place, pair, *push,
         )?;
         if !nests {
             return Ok(false);
@@ -141,6 +147,8 @@ pub(crate) fn check_nested(
     ensures err { (starts : List StateNo) → BeginAtZero starts pots.now → All (IsExtended machine.now.steps pots.now) pots.now → All (IsOpened machine.now.steps pots.now) pots.now
         → IfErr result (IsFaultOf machine.now.steps starts pots.now) }
 {
+    let pops = pops_by_frame(alloc, machine)?;
+    let steps = Steps { index, pops: &pops };
     let mut found = HashMap::new(alloc);
     let mut ways = Ways::new(alloc);
     let pairs = pots.as_slice();
@@ -152,7 +160,7 @@ pub(crate) fn check_nested(
             &mut found,
             &mut ways,
             machine,
-            index,
+            steps,
             &noted,
             place as u64,
             pairs[place],
