@@ -3,5 +3,7 @@ pub mod Rows
 pub mod Listed
 pub mod Ranges
 pub mod Leaving
+pub mod Popping
 pub mod Nested
+pub mod Overtaking
 pub mod Lesser

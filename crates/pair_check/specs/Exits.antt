@@ -11,10 +11,12 @@ use Rattle.ml_base.specs.declared.numbers.StepNo.{StepNo}
 use Rattle.ml_base.specs.declared.weight.Weight.{Weight}
 use Rattle.ml_base.specs.Weight.{capped_total}
 use Rattle.adapt_machine.specs.declared.MachineStep.{MachineStep}
+use Rattle.adapt_machine.specs.declared.MachineKind.TheVariants.{Pop}
 use Rattle.segment_grammar.specs.declared.potentials.Pot.{Pot}
 use Rattle.segment_grammar.specs.FrameRows.{is_pair}
-use Rattle.segment_grammar.specs.Index.{IsPopAt}
+use Rattle.segment_grammar.specs.Index.{IsPopAt, step_no}
 use Rattle.segment_grammar.specs.Pots.{IsRootBelow}
+use Rattle.segment_grammar.specs.Rows.{row_of}
 use Rattle.pair_check.specs.declared.exits.Exit.{Exit}
 use Rattle.pair_check.specs.Rules.{IsListedWithin, IsListedRoot, IsNestedBy, step_weight}
 
@@ -66,10 +68,32 @@ exit_of inner pop = record { inner = inner; pop = pop }
 abbrev pub AreExitsOf : List MachineStep → List Pot → FrameNo → List Exit → Type 0
 AreExitsOf steps pots frame exits = (exit : Exit) → Contains exits exit ↔ ((p : Pot) × Contains pots p × IsExitOf steps p frame exit)
 
--- exactly the exits of what is entered at the state with the frame
+-- an exit of what is entered at the state with the frame
+abbrev pub IsExitFrom : List MachineStep → List Pot → StateNo → FrameNo → Exit → Type 0
+IsExitFrom steps pots entered frame exit = (p : Pot) × Contains pots p × (p.root ≡ Entry entered) × IsExitOf steps p frame exit
+
+-- exactly those exits
 abbrev pub AreExitsFrom : List MachineStep → List Pot → StateNo → FrameNo → List Exit → Type 0
-AreExitsFrom steps pots entered frame exits =
-    (exit : Exit) → Contains exits exit ↔ ((p : Pot) × Contains pots p × (p.root ≡ Entry entered) × IsExitOf steps p frame exit)
+AreExitsFrom steps pots entered frame exits = (exit : Exit) → Contains exits exit ↔ IsExitFrom steps pots entered frame exit
+
+-- ---- exits by the pops of a frame
+
+-- each pop among the first `n` steps is in the row of its frame
+abbrev pub ArePopsIn : List MachineStep → ℕ → List (List StepNo) → Type 0
+ArePopsIn steps n rows = (k : ℕ) (u : MachineStep) → k < n → slice_get steps k ≡ Some u → u.kind ≡ Pop → Contains (row_of rows u.frame.0) (step_no k)
+
+-- the exit by the pop is added, if there is one, and nothing else
+pub record AddsExitBy (steps : List MachineStep) (pots : List Pot) (entered : StateNo) (frame : FrameNo) (pop : StepNo) (old new : List Exit) : Type 0 where
+  pub kept : (exit : Exit) → Contains old exit → Contains new exit
+  pub only : (exit : Exit) → Contains new exit → Contains old exit ⊎ IsExitFrom steps pots entered frame exit
+  pub all : (exit : Exit) → exit.pop ≡ pop → IsExitFrom steps pots entered frame exit → Contains new exit
+
+-- exactly the exits by these pops
+pub record AreExitsBy (steps : List MachineStep) (pots : List Pot) (entered : StateNo) (frame : FrameNo) (pops : List StepNo) (exits : List Exit) : Type 0 where
+  pub only : (exit : Exit) → Contains exits exit → IsExitFrom steps pots entered frame exit
+  pub all : (exit : Exit) → Contains pops exit.pop → IsExitFrom steps pots entered frame exit → Contains exits exit
+
+-- ---- what is found
 
 -- the exits that are found for an entered state and a frame, by their numbers
 abbrev pub exits_at : List ((ℕ × ℕ) × Vec Exit) → ℕ → ℕ → Option (Vec Exit)

@@ -1,3 +1,4 @@
 pub mod Rules
 pub mod Exits
+pub mod Overtaken
 pub mod Least

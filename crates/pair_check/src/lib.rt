@@ -9,8 +9,10 @@
 //! - a push, a listed pair of the root that it enters and a pop of its frame lead to one that is listed with at most the sum.
 //!
 //! Contracts see the rules as `KeepsRules` and a fault as `IsFaultOf` (`specs/Rules`). Nothing is searched for: each rule looks up what
-//! the listed pairs lead to. The exits of what is entered with a frame are found once, and the places of the pairs of a root are noted by
-//! state before the first of them is judged. These notes serve speed alone, and contracts do not see them.
+//! the listed pairs lead to. The exits of what is entered with a frame are found once, from the pairs of the root or from the pops of the
+//! frame, by which are fewer; and the places of the pairs of a root are noted by state before the first of them is judged. Where pairs of
+//! one root push the same frame into the same state, a later one that weighs no less is not looked up. All this serves speed alone, and
+//! the contract of `check_pairs` does not see it.
 #![tactic(auto)]
 
 mod beginning;
@@ -23,9 +25,11 @@ mod listing;
 mod nesting;
 mod noted;
 mod opening;
+mod pops;
 #[cfg(test)]
 mod tests;
 mod under;
+mod ways;
 
 pub use checking::check_pairs;
 pub use fault::PairFault;

@@ -3,9 +3,10 @@ ghost use Rattle.segment_grammar.specs.Pots.{IsAboveLast};
 ghost use Rattle.pair_check.specs.Rules.{ArePairsWithin};
 
 use crate::noted::note_root;
+use crate::ways::Ways;
 use crate::{PairFault, check_pairs, least_listed};
-use adapt_machine::Machine;
-use ml_base::{FrameNo, NoMemory, Root, StateNo, Weight};
+use adapt_machine::{Machine, MachineKind, MachineStep};
+use ml_base::{FrameNo, NoMemory, Root, StateNo, StepNo, Weight};
 use segment_grammar::{Pot, Potentials};
 use std::alloc::Global;
 use std::test::Fail;
@@ -133,5 +134,45 @@ fn the_places_of_one_root_are_noted(rt: HostRuntime) -> Result<(), Fail> {
     assert_eq!(rt; places, [0, 9, 9, 1]);
     note_root(&mut places, &pairs, 2);
     assert_eq!(rt; places, [0, 2, 3, 1]);
+    Ok(())
+}
+
+/// A push into state 2 with the frame.
+fn push_into(from: u64, frame: u64, cost: u64) -> MachineStep {
+    MachineStep {
+        kind: MachineKind::Push,
+        from: StateNo(from),
+        to: StateNo(2),
+        frame: FrameNo(frame),
+        cost,
+    }
+}
+
+#[test]
+fn a_later_way_that_weighs_no_less_is_passed_over(rt: HostRuntime) -> Result<(), Fail> {
+    let machine = nest_machine(rt.alloc())?;
+    let start = pot(Root::Request, 0, 0, 0);
+    let light = pot(Root::Request, 1, 0, 0);
+    let entered = pot(Root::Entry(StateNo(2)), 1, 0, 0);
+    let pots = listed(rt.alloc(), &[start, light])?;
+    let mut ways = Ways::new(rt.alloc());
+    let same = push_into(1, 0, 1);
+    assert_eq!(rt; ways.overtake(&machine, &pots, 1, light, same), false);
+    ways.note(0, StepNo(0), push_into(0, 0, 1))?;
+    assert_eq!(rt; ways.overtake(&machine, &pots, 1, light, same), true);
+    assert_eq!(rt;
+        ways.overtake(&machine, &pots, 1, light, push_into(1, 0, 0)),
+        false
+    );
+    assert_eq!(rt;
+        ways.overtake(&machine, &pots, 1, light, push_into(1, 1, 1)),
+        false
+    );
+    assert_eq!(rt; ways.overtake(&machine, &pots, 1, entered, same), false);
+    // What is noted of a pair says nothing of the pair itself.
+    assert_eq!(rt;
+        ways.overtake(&machine, &pots, 0, start, push_into(0, 0, 1)),
+        false
+    );
     Ok(())
 }

@@ -1,4 +1,5 @@
-use Rattle.std.proofs.Common.{◌<◌, arith}
+use Rattle.std.proofs.Common.{◌<◌, arith, subst, take}
+use Rattle.std.specs.List.{All}
 use Rattle.std.proofs.lemmas.List.Elements.{All-more}
 use Rattle.segment_grammar.specs.declared.potentials.Pot.{Pot}
 use Rattle.segment_grammar.proofs.Rising.{accepted, refuted}
@@ -10,6 +11,10 @@ pub is_nested-requires-clause-within : goal.is_nested-requires-clause-within
 is_nested-requires-clause-within c =
     holds_of (λ (p : Pot). p.state.0 < c.args.machine.now.states) c.as_slice-pairs.result.now c.args.pots.now c.as_slice-pairs.ensures.value
     c.loop-place.place _ (omega arith) c.requires.within
+
+pub is_nested-requires-clause-before : goal.is_nested-requires-clause-before
+is_nested-requires-clause-before c =
+    subst (λ ps. All (IsNested c.args.machine.now.steps c.args.pots.now) (take c.loop-place.place ps)) c.as_slice-pairs.ensures.value c.loop-place.invariant.nests
 
 pub loop-place-preserved : goal.loop-place-preserved
 loop-place-preserved c = record {

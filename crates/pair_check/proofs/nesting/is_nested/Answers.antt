@@ -10,8 +10,8 @@ use Rattle.pair_check.proofs.Loops.{all_passed, one_failed}
 use Rattle.pair_check.proofs.Rows.{row_below, row_tested}
 use Rattle.pair_check.proofs.nesting.is_nested.Goals as goal
 
-pub nests_by-requires-clause-below : goal.nests_by-requires-clause-below
-nests_by-requires-clause-below c = All-get_or (λ (k : StepNo). k.0 < length c.args.machine.now.steps) c.pushes-push-items.result.now c.loop-push.push-index _ c.loop-push-test.true
+pub nests_once-requires-clause-below : goal.nests_once-requires-clause-below
+nests_once-requires-clause-below c = All-get_or (λ (k : StepNo). k.0 < length c.args.machine.now.steps) c.pushes-push-items.result.now c.loop-push.push-index _ c.loop-push-test.true
     (row_below c.args.machine.now.steps (IsPushFrom c.args.pair.state) c.pushes-push-items.result.now (c.pushes-push-items.ensures c.args.machine.now c.requires.indexed))
 
 pub returns-then-not-nests-clause-nests : goal.returns-then-not-nests-clause-nests
