@@ -1,4 +1,4 @@
-use crate::merge;
+use crate::{Inventory, merge};
 use ml_base::NoMemory;
 use nml_elements::{DomainList, read_domain};
 use std::alloc::Global;
@@ -31,12 +31,21 @@ const FILES: [&str; 22] = [
     r#"{"format":1,"topology":"t","elements":[{"type":"ConversionService","id":"a","hasInboundPort":["x"]}]}"#,
 ];
 
-/// How a number hashes in a map over the file.
-fn hash_over(alloc: Global, file: &str) -> Result<u64, Fail> {
+/// Services 2 to 5 of a Node, the last of which has another encoding.
+const LENT: &str =
+    r#"{"format":1,"topology":"t","elements":[{"type":"Node","id":"n","hasInboundPort":["p"],"hasService":["a","b","c","d"]},
+    {"type":"Port","id":"p"},{"type":"SwitchingService","id":"a"},{"type":"SwitchingService","id":"b"},{"type":"SwitchingService","id":"c"},
+    {"type":"SwitchingService","id":"d","encoding":"e"}]}"#;
+
+fn inventory_of(alloc: Global, file: &str) -> Result<Inventory, Fail> {
     let mut domains = DomainList::new(alloc);
     domains.push(read_domain(alloc, file.as_bytes())?)?;
-    let inventory = merge(alloc, domains)?;
-    Ok(inventory.hashing().hash_one(0u64))
+    Ok(merge(alloc, domains)?)
+}
+
+/// How a number hashes in a map over the file.
+fn hash_over(alloc: Global, file: &str) -> Result<u64, Fail> {
+    Ok(inventory_of(alloc, file)?.hashing().hash_one(0u64))
 }
 
 #[test]
@@ -50,6 +59,21 @@ fn each_file_hashes_its_own_way(rt: HostRuntime) -> Result<(), Fail> {
         let Ok(()) = hashes.push(hash) else {
             return Err(NoMemory.into());
         };
+    }
+    Ok(())
+}
+
+#[test]
+fn later_services_of_a_loan_have_the_first_as_twin(rt: HostRuntime) -> Result<(), Fail> {
+    let inventory = inventory_of(rt.alloc(), LENT)?;
+    assert_eq!(rt; inventory.elements(), 6);
+    for number in 0..inventory.elements() {
+        let twin = if number == 3 || number == 4 {
+            Some(2)
+        } else {
+            None
+        };
+        assert_eq!(rt; inventory.twin_of(number), twin, "of element {number}");
     }
     Ok(())
 }
