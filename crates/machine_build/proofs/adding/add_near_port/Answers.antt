@@ -1,6 +1,6 @@
 use Rattle.std.proofs.Common.{arith}
 use Rattle.machine_build.proofs.Passed.{from_state_apart, goes_on_none, goes_on_then, near_port_whole}
-use Rattle.machine_build.proofs.Passing.{done_on}
+use Rattle.machine_build.proofs.Skipped.{done_on}
 use Rattle.machine_build.proofs.Growing.{adds_first}
 use Rattle.machine_build.proofs.adding.add_near_port.Goals as goal
 

@@ -1,7 +1,7 @@
 use Rattle.std.proofs.Common.{ℕ, ltb, rules}
 use Rattle.std.proofs.lemmas.List.Sorted.{IsPartitionPoint-from_clause, IsPartitionedBy-ltb}
 use Rattle.label_sets.proofs.Has.{ends_rise}
-use Rattle.machine_build.proofs.Passing.{none_between, none_from}
+use Rattle.machine_build.proofs.Skipped.{none_between, none_from}
 use Rattle.machine_build.proofs.passing.next_label.Goals as goal
 
 pub returns-in-Some : goal.returns-in-Some
