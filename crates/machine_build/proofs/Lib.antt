@@ -5,6 +5,7 @@ pub mod Fitting
 pub mod Listed
 pub mod Crossed
 pub mod Passed
+pub mod Skipped
 pub mod Named
 pub mod Passages
 pub mod Chosen

@@ -19,7 +19,7 @@ use Rattle.machine_build.specs.declared.ways.End.{End}
 use Rattle.machine_build.specs.declared.ways.Move.{Move}
 use Rattle.machine_build.specs.Adding.{Adds, AreMoves, Between}
 use Rattle.machine_build.specs.Frames.{GoesOn, IsEffect, IsFramed}
-use Rattle.machine_build.specs.Ways.{AreFitting, GoesFrom, IsDone, IsEnd, IsFarPort, IsNearEnd, IsNearPort, IsWay, Lets, Way, changes, is_far, is_near, takes, way_of}
+use Rattle.machine_build.specs.Ways.{AreFitting, GoesFrom, IsDone, IsEnd, IsFarPort, IsFrom, IsNearEnd, IsNearPort, IsWay, Lets, Way, changes, is_far, is_near, takes, way_of}
 use Rattle.machine_build.proofs.Crossed.{end_in, end_is, in_span}
 use Rattle.machine_build.proofs.Growing.{adds_next, adds_none, adds_same}
 use Rattle.machine_build.proofs.Listed.{at_listed, listed_at, listed_once}
@@ -47,7 +47,7 @@ still_framed old new (element.Port p) class label number on f = tt
 still_effect : (T : Topology) (old new : List Frame) (e : Element) (near : ℕ) (label : Tag) (x : Effect) → GoesOn old new → IsEffect T old e near label x → IsEffect T new e near label x
 still_effect T old new e near label x on is = record { class = is.class; has_class = is.has_class; kind_is = is.kind_is; cost_is = is.cost_is; framed = still_framed old new e is.class label x.frame.0 on is.framed }
 
-still_done : (T : Topology) (places : List PlaceName) (old new : List Frame) → GoesOn old new → (m : Move) → IsDone T places old m → IsDone T places new m
+pub still_done : (T : Topology) (places : List PlaceName) (old new : List Frame) → GoesOn old new → (m : Move) → IsDone T places old m → IsDone T places new m
 still_done T places old new on m d = record { placed = d.placed; place = d.place; element_at = d.element_at; place_at = d.place_at; effect = still_effect T old new d.placed.element m.near.port.0 d.place.label m.effect on d.effect }
 
 -- one addition of a loop, with more frames
@@ -150,7 +150,7 @@ module _ (T : Topology) (places : List PlaceName) (number : ℕ) (near : End) (i
 
 module _ (T : Topology) (places : List PlaceName) (number : ℕ) where
   abbrev pub FromState : PortNo → ℕ → Way → Type 0
-  FromState port state w = IsWay T places w × (w.element ≡ number) × (w.near ≡ record { port = port; state = record { 0 = state } })
+  FromState port state w = IsFrom T places number port state w
 
   pub from_state_apart : (port : PortNo) (j k : ℕ) (w : Way) → FromState port j w → FromState port k w → j ≡ k
   from_state_apart port j k w f g = ap (λ (e : End). e.state.0) (sym f.2 ∙ g.2)

@@ -10,6 +10,7 @@ use Rattle.nml_elements.specs.declared.elements.Element.{Element}
 use Rattle.nml_elements.specs.declared.elements.Element.TheVariants as element
 use Rattle.nml_elements.specs.declared.elements.Labels.{Labels}
 use Rattle.nml_elements.specs.declared.elements.Labels.TheVariants.{Unlabelled, Of}
+use Rattle.ml_base.specs.declared.numbers.PortNo.{PortNo}
 use Rattle.ml_base.specs.declared.numbers.StateNo.{StateNo}
 use Rattle.ml_base.specs.declared.numbers.Wish.{Wish}
 use Rattle.ml_base.specs.declared.numbers.Wish.TheVariants.{Any, Value}
@@ -113,6 +114,10 @@ pub record IsWay (T : Topology) (places : List PlaceName) (w : Way) : Type 0 whe
   pub to_far : is_far T placed.element to ≡ true
   pub taken : takes placed.element leaves.label ≡ true
   pub lets : Lets (changes placed.element) leaves.label enters.label
+
+-- the way through the element of a number from a port and a state
+abbrev pub IsFrom : Topology → List PlaceName → ℕ → PortNo → ℕ → Way → Type 0
+IsFrom T places number port state w = IsWay T places w × (w.element ≡ number) × (w.near ≡ record { port = port; state = record { 0 = state } })
 
 -- the move does and costs what the element's steps do and cost at the near place
 pub record IsDone (T : Topology) (places : List PlaceName) (frames : List Frame) (m : Move) : Type 0 where

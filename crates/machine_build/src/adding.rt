@@ -1,12 +1,13 @@
-ghost use Rattle.std.specs.Prelude.{◌≡◌, ◌<◌, [], IfOk, OnOk, length};
+ghost use Rattle.std.specs.Prelude.{◌≡◌, ◌<◌, ◌≤◌, [], true, None, IfOk, OnOk, length};
 ghost use Rattle.circuit_spec.specs.Faults.{ClassesFit};
 ghost use Rattle.circuit_spec.specs.Network.{elements_of, ports};
-ghost use Rattle.machine_build.specs.Adding.{Adds, AreMoves};
+ghost use Rattle.machine_build.specs.Adding.{Adds, AreMoves, Between};
 ghost use Rattle.machine_build.specs.Frames.{GoesOn};
-ghost use Rattle.machine_build.specs.Ways.{GoesFrom, HaveSpans, IsDone, IsFarPort, IsNearPort, IsNearEnd, IsWay};
+ghost use Rattle.machine_build.specs.Ways.{AreFitting, GoesFrom, HaveSpans, IsDone, IsFarPort, IsFrom, IsNearPort, IsNearEnd, IsWay};
 
 use crate::frames::effect_of;
 use crate::moves::Moves;
+use crate::passing::next_taken;
 use crate::sides::{changes, far_ports, fitting, near_ports, takes};
 use crate::ways::{Crossing, End, Move};
 use circuit_spec::Frame;
@@ -14,7 +15,7 @@ use indexmap::IndexSet;
 use keyed_hash::Keyed;
 use ml_base::{NoMemory, PortNo, StateNo};
 use nml_inventory::Inventory;
-use open_places::Places;
+use open_places::{Places, Span};
 use std::alloc::Global;
 
 /// Adds the move from the near end of a crossing to a far end.
@@ -107,6 +108,42 @@ fn add_near_end(
     Ok(())
 }
 
+/// Adds the moves between the far side of an element and the next of a near port's places, from this one on, whose label the element
+/// may take. Returns the state up to which that adds all moves.
+fn add_next_end(
+    inventory: &Inventory,
+    places: &Places,
+    frames: &mut IndexSet<Frame, Keyed>,
+    moves: &mut Moves,
+    number: u64,
+    near: End,
+    span: Span,
+) -> Result<u64, NoMemory>
+    requires fit { ClassesFit inventory.now }
+    requires near { IsNearPort inventory.now number near.port.0 }
+    requires places { HaveSpans inventory.now places.now }
+    requires fitting { AreFitting inventory.now places.now.places near.port.0 true None span }
+    requires first { span.first ≤ near.state.0 }
+    requires end { near.state.0 < span.end }
+    ensures past { IfOk result (λ past. (near.state.0 < past) × (past ≤ span.end)) }
+    ensures on { OnOk result (GoesOn frames.old.keys frames.new.keys) }
+    ensures adds { IfOk result (λ past. Adds (Between near.state.0 past (IsFrom inventory.now places.now.places number near.port)) (IsDone inventory.now places.now.places frames.new.keys) moves.old moves.new) }
+{
+    let Some(element) = inventory.element(number) else {
+        unreachable!()
+    };
+    let next = next_taken(places, element, near.state.0, span.end);
+    if next == span.end {
+        return Ok(next);
+    }
+    let taken = End {
+        port: near.port,
+        state: StateNo(next),
+    };
+    add_near_end(inventory, places, frames, moves, number, taken)?;
+    Ok(next + 1)
+}
+
 /// Adds the moves between the places of a port at the near side of an element and its far side.
 fn add_near_port(
     inventory: &Inventory,
@@ -123,12 +160,13 @@ fn add_near_port(
     ensures adds { IfOk result (λ _. Adds (λ w. IsWay inventory.now places.now.places w × (w.element ≡ number) × (w.near.port ≡ port)) (IsDone inventory.now places.now.places frames.new.keys) moves.old moves.new) }
 {
     let span = fitting(inventory, places, port, true, None);
-    for state in span.first..span.end {
+    let mut state = span.first;
+    while state < span.end {
         let near = End {
             port,
             state: StateNo(state),
         };
-        add_near_end(inventory, places, frames, moves, number, near)?;
+        state = add_next_end(inventory, places, frames, moves, number, near, span)?;
     }
     Ok(())
 }

@@ -7,6 +7,7 @@ mod building;
 mod built;
 mod frames;
 mod moves;
+mod passing;
 mod sides;
 mod ways;
 
