@@ -1,5 +1,4 @@
 pub mod Zipped
-pub mod Weighing
 pub mod Placing
 pub mod Ordering
 pub mod Lifting
