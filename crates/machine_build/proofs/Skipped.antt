@@ -25,7 +25,8 @@ use Rattle.machine_build.specs.Frames.{GoesOn}
 use Rattle.machine_build.specs.Passing.{AreAlike, AreBounds, AreNotTaken, FollowsBelow, HasNoneBetween, HasNoneFrom, is_below}
 use Rattle.machine_build.specs.Ways.{AreFitting, IsDone, IsFrom, Way, carries, takes}
 use Rattle.machine_build.proofs.Growing.{adds_none, adds_same, adds_then}
-use Rattle.machine_build.proofs.Items.{number_cases, one_of_some, same_at}
+use Rattle.ml_base.proofs.Lists.{one_of_some, same_at}
+use Rattle.ml_base.proofs.Comparisons.{below_cases}
 use Rattle.machine_build.proofs.Passed.{still_done}
 
 -- The next label of a set
@@ -84,14 +85,14 @@ tag_above l (Some m) e = (m, refl, nat_below l m e)
 labels_rise : (places : List PlaceName) → IsRising places → (i j : ℕ) (p q : PlaceName) (l : ℕ) → slice_get places i ≡ Some p → slice_get places j ≡ Some q → p.class ≡ q.class → i ≤ j → p.label ≡ Some l → IsFromOn l q.label
 labels_rise places rise i j p q l at_i at_j same le label = elim (cases_lt i j) as (λ v. IsFromOn l q.label) [
   | inl lt ↦
-    (let here : get_or places i p ≡ p = one_of_some (sym (slice_get-get_or places i p (slice_get_within places i p at_i)) ∙ at_i) in
-    let there : get_or places j p ≡ q = one_of_some (sym (slice_get-get_or places j p (slice_get_within places j q at_j)) ∙ at_j) in
-    let below : place_cmp p q ≡ Less = ap (λ x. place_cmp x q) (sym here) ∙ ap (place_cmp (get_or places i p)) (sym there) ∙ below_at place_cmp places i j p rise lt (slice_get_within places j q at_j) in
-    tag_above l q.label (ap (λ t. option_cmp nat_cmp t q.label) (sym label) ∙ labels_below p q below same))
+      (let here : get_or places i p ≡ p = one_of_some (sym (slice_get-get_or places i p (slice_get_within places i p at_i)) ∙ at_i) in
+      let there : get_or places j p ≡ q = one_of_some (sym (slice_get-get_or places j p (slice_get_within places j q at_j)) ∙ at_j) in
+      let below : place_cmp p q ≡ Less = ap (λ x. place_cmp x q) (sym here) ∙ ap (place_cmp (get_or places i p)) (sym there) ∙ below_at place_cmp places i j p rise lt (slice_get_within places j q at_j) in
+      tag_above l q.label (ap (λ t. option_cmp nat_cmp t q.label) (sym label) ∙ labels_below p q below same))
   | inr ge ↦
-    (let one : i ≡ j = omega (arith, le, ge) in
-    let equal : p ≡ q = same_at places j p q (subst (λ k. slice_get places k ≡ Some p) one at_i) at_j in
-    (l, ap (λ (x : PlaceName). x.label) (sym equal) ∙ label, omega arith))
+      (let one : i ≡ j = omega (arith, le, ge) in
+      let equal : p ≡ q = same_at places j p q (subst (λ k. slice_get places k ≡ Some p) one at_i) at_j in
+      (l, ap (λ (x : PlaceName). x.label) (sym equal) ∙ label, omega arith))
 ]
 
 -- Up to the next label of a link's set nothing is carried
@@ -143,7 +144,7 @@ module _ (T : Topology) (places : List PlaceName) (number : ℕ) (port : PortNo)
 
   pub passed_then : (S : Move → Type 0) (old new : List Move) → first ≤ next → Adds (IsFrom T places number port next) S old new → Adds (Between first (next + 1) (IsFrom T places number port)) S old new
   passed_then S old new from a = adds_same (IsFrom T places number port next) (Between first (next + 1) (IsFrom T places number port)) S S old new a
-      (λ w b. elim (number_cases b.0 next b.2) as (λ v. IsFrom T places number port next w) [
+      (λ w b. elim (below_cases b.0 next b.2) as (λ v. IsFrom T places number port next w) [
         | inl l ↦ absurd (no_way b.0 w b.1 l b.3)
         | inr same ↦ subst (λ k. IsFrom T places number port k w) same b.3
       ])

@@ -9,7 +9,8 @@ use std::alloc::{AllocError, Global};
 use std::process::ExitCode;
 
 /// The port `a` leads over the link `l` to the port `b`.
-const ONE: &str = "{\"format\":1,\"topology\":\"d\",\"elements\":[{\"type\":\"Port\",\"id\":\"a\",\"isSource\":[\"l\"]},{\"type\":\"Port\",\"id\":\"b\",\"isSink\":[\"l\"]},{\"type\":\"Link\",\"id\":\"l\"}]}";
+const ONE: &str =
+    "{\"format\":1,\"topology\":\"d\",\"elements\":[{\"type\":\"Port\",\"id\":\"a\",\"isSource\":[\"l\"]},{\"type\":\"Port\",\"id\":\"b\",\"isSink\":[\"l\"]},{\"type\":\"Link\",\"id\":\"l\"}]}";
 
 fn words_of(alloc: Global, text: &str) -> Result<Vec<String>, AllocError> {
     let mut words = Vec::new(alloc);

@@ -16,7 +16,8 @@ use replies::Stop;
 use std::alloc::Global;
 
 /// The port `a` leads over the link `l` to the port `b`.
-const ONE: &str = "{\"format\":1,\"topology\":\"d\",\"elements\":[{\"type\":\"Port\",\"id\":\"a\",\"isSource\":[\"l\"]},{\"type\":\"Port\",\"id\":\"b\",\"isSink\":[\"l\"]},{\"type\":\"Link\",\"id\":\"l\"}]}";
+const ONE: &str =
+    "{\"format\":1,\"topology\":\"d\",\"elements\":[{\"type\":\"Port\",\"id\":\"a\",\"isSource\":[\"l\"]},{\"type\":\"Port\",\"id\":\"b\",\"isSink\":[\"l\"]},{\"type\":\"Link\",\"id\":\"l\"}]}";
 
 /// The network of the files of these names, or the reply that says why there is none.
 fn network<F: Files>(alloc: Global, names: &[Name], files: &mut F) -> Result<Inventory, Stop>
