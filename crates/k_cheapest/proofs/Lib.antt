@@ -11,3 +11,4 @@ pub mod Further
 pub mod Finish
 pub mod Beginning
 pub mod Unlisted
+pub mod OneKind

@@ -8,10 +8,13 @@
 #![tactic(auto)]
 
 mod choice;
+#[cfg(test)]
+mod enumeration;
 mod expand;
 mod found;
 mod given;
 mod item;
+mod laws;
 mod listing;
 mod queue;
 mod run;
@@ -22,4 +25,5 @@ mod todo;
 mod ways;
 
 pub use found::{KEnd, KFound, KSteps, KWalk, KWalkList};
+pub use laws::machine_steps_have_kinds;
 pub use run::k_best;
