@@ -1,6 +1,8 @@
 -- Sets of walks that are added to those that wait, of no kind, of one and of several.
-use Rattle.std.proofs.Common.{◌≡◌, ◌⊎◌, ℕ, ◌+◌, ◌<◌, ◌≤◌, List, [], ◌∷◌, ◌++◌, length, sym, ◌∙◌, ap, subst, inl, inr, arith, Contains, Some, slice_get}
-use Rattle.std.proofs.lemmas.List.Elements.{Contains-push_cases, Contains-push, Contains-append_left}
+use Rattle.std.proofs.Common.{◌≡◌, ◌⊎◌, ℕ, ◌+◌, ◌<◌, ◌≤◌, List, ◌∷◌, length, sym, ◌∙◌, ap, subst, inl, inr, arith, Contains, Some, slice_get}
+use Rattle.std.specs.List.Sorted.{IsPermutation}
+use Rattle.std.proofs.lemmas.List.Sorted.{IsPermutation-sym, Contains-permutation}
+use Rattle.k_cheapest.proofs.Heads.{first_in, later_in, cons_cases}
 use Rattle.std.proofs.lemmas.Bool.{cases_lt}
 use Rattle.ml_base.specs.declared.numbers.StateNo.{StateNo}
 use Rattle.adapt_machine.specs.declared.MachineStep.{MachineStep}
@@ -14,16 +16,16 @@ module _ (steps : List MachineStep) (starts : List StateNo) where
   adds_none Kind old none = record { kept = λ i c. c; only = λ i c. inl c; covered = λ ks k. absurd (none ks k) }
 
   -- one item is added
-  pub adds_one : (Kind : List ℕ → Type 0) (old new : List Item) (i : Item) → new ≡ old ++ i ∷ [] → IsItem steps starts i
+  pub adds_one : (Kind : List ℕ → Type 0) (old new : List Item) (i : Item) → IsPermutation (i ∷ old) new → IsItem steps starts i
       → ((ks : List ℕ) → Has steps starts i ks → Kind ks) → ((ks : List ℕ) → Kind ks → Has steps starts i ks) → Adds steps starts Kind old new
-  adds_one Kind old new i e is sound all = subst (λ v. Adds steps starts Kind old v) (sym e) (record {
-    kept = λ j c. Contains-append_left old (i ∷ []) j c;
-    only = λ j c. elim (Contains-push_cases old i j c) as (λ v. Contains old j ⊎ (IsItem steps starts j × ((ks : List ℕ) → Has steps starts j ks → Kind ks))) [
-      | inl o ↦ inl o
-      | inr s ↦ inr (subst (λ v. IsItem steps starts v) s is, λ ks h. sound ks (subst (λ v. Has steps starts v ks) (sym s) h))
+  adds_one Kind old new i moved is sound all = record {
+    kept = λ j c. Contains-permutation (i ∷ old) new j moved (later_in i old j c);
+    only = λ j c. elim (cons_cases i old j (Contains-permutation new (i ∷ old) j (IsPermutation-sym (i ∷ old) new moved) c)) as (λ v. Contains old j ⊎ (IsItem steps starts j × ((ks : List ℕ) → Has steps starts j ks → Kind ks))) [
+      | inl s ↦ inr (subst (λ v. IsItem steps starts v) s is, λ ks h. sound ks (subst (λ v. Has steps starts v ks) (sym s) h))
+      | inr o ↦ inl o
     ];
-    covered = λ ks k. (i, Contains-push old i, all ks k);
-  })
+    covered = λ ks k. (i, Contains-permutation (i ∷ old) new i moved (first_in i old), all ks k);
+  }
 
   -- the same kind, in other words
   pub adds_same : (Kind Other : List ℕ → Type 0) (old new : List Item) → ((ks : List ℕ) → Kind ks → Other ks) → ((ks : List ℕ) → Other ks → Kind ks)

@@ -3,7 +3,8 @@ pub mod Heads
 pub mod Adding
 pub mod Parting
 pub mod Offering
-pub mod Lightest
+pub mod Ordering
+pub mod Buckets
 pub mod Filing
 pub mod Numbers
 pub mod Capping

@@ -8,17 +8,12 @@ use Rattle.k_cheapest.specs.declared.todo.TodoForm.{TodoForm}
 use Rattle.k_cheapest.specs.declared.given.Given.{Given}
 use Rattle.k_cheapest.specs.declared.item.Item.{Item}
 use Rattle.k_cheapest.specs.declared.queue.Queue.{Queue}
+use Rattle.k_cheapest.specs.Buckets.{waiting_in}
 use Rattle.k_cheapest.specs.Todos.{Stands, IsWeighed}
 use Rattle.k_cheapest.specs.Givens.{given_steps, IsGiven}
 
 abbrev pub waiting_of : Queue → List Item
-waiting_of q = q.items.items
-
--- an item stands at the place, and none of the first `n` is lighter
-pub record IsLightestBelow (items : List Item) (n place : ℕ) : Type 0 where
-  pub item : Item
-  pub at : slice_get items place ≡ Some item
-  pub least : (i : ℕ) (j : Item) → i < n → slice_get items i ≡ Some j → IsCappedAtMost item.weight j.weight
+waiting_of q = waiting_in q.buckets.entries
 
 -- an item was taken out, and none that waited is lighter
 pub record Takes (old : List Item) (i : Item) (new : List Item) : Type 0 where

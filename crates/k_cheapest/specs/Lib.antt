@@ -3,6 +3,7 @@ pub mod Ways
 pub mod Todos
 pub mod Givens
 pub mod Settings
+pub mod Buckets
 pub mod Items
 pub mod Choices
 pub mod Nests

@@ -1,38 +1,89 @@
-ghost use Rattle.std.specs.Prelude.{◌≡◌, ◌<◌, ◌++◌, ◌∷◌, ◌+◌, [], IfOk, IfSome, IfNone, length};
-ghost use Rattle.k_cheapest.specs.Items.{waiting_of, Takes, IsLightestBelow};
+ghost use Rattle.std.specs.Prelude.{◌≡◌, ◌∷◌, ◌++◌, [], IfOk, IfSome, IfNone};
+ghost use Rattle.std.specs.List.Sorted.{IsPermutation};
+ghost use Rattle.k_cheapest.specs.Buckets.{IsAbsent};
+ghost use Rattle.k_cheapest.specs.Buckets.{opens_of, weighing, weighed, waiting_in};
+ghost use Rattle.k_cheapest.specs.Items.{waiting_of, Takes};
 
+use crate::given::Given;
 use crate::item::Item;
-use ml_base::NoMemory;
+use crate::todo::Todo;
+use ml_base::{NoMemory, Weight};
 use std::alloc::Global;
+use std::collections::BTreeMap;
 
-/// Sets of walks that wait.
+/// A set of walks, but for its weight.
+#[derive(Clone, Copy)]
+pub struct Open<'a> {
+    todo: &'a Todo<'a>,
+    given: Given<'a>,
+}
+
+/// Sets of walks of one weight, of which there is at least one.
+#[derive(Drop)]
+pub struct Bucket<'a> {
+    first: Open<'a>,
+    more: Vec<Open<'a>>,
+}
+
+/// Sets of walks that wait, in buckets by weight. Of those of one weight the last to come leaves first, so that one walk is told to its
+/// first step before another of its weight is begun.
 #[derive(Drop)]
 pub struct Queue<'a> {
-    items: Vec<Item<'a>>,
+    alloc: Global,
+    buckets: BTreeMap<Weight, Bucket<'a>>,
 }
 
-/// The lighter of two items, by their places.
-fn lighter(items: &[Item<'_>], best: usize, place: usize) -> usize
-    requires best { IsLightestBelow items.now place best }
-    requires place { place < length items.now }
-    ensures { IsLightestBelow items.now (place + 1) result }
+/// Puts a set behind the others of a bucket.
+fn join<'a>(bucket: &mut Bucket<'a>, open: Open<'a>) -> Result<(), NoMemory>
+    ensures { IfOk result (λ _. opens_of bucket.new ≡ opens_of bucket.old ++ open.entry ∷ []) }
 {
-    if items[place].weight.is_at_most(items[best].weight) {
-        return place;
+    match bucket.more.push(open) {
+        Ok(()) => Ok(()),
+        Err(_) => Err(NoMemory),
     }
-    best
 }
 
-/// The place of a lightest item.
-fn lightest(items: &[Item<'_>]) -> usize
-    requires { 0 < length items.now }
-    ensures { IsLightestBelow items.now (length items.now) result }
+/// Puts a set into the bucket of its weight.
+fn put<'a>(
+    alloc: Global,
+    buckets: &mut BTreeMap<Weight, Bucket<'a>>,
+    weight: Weight,
+    open: Open<'a>,
+) -> Result<(), NoMemory>
+    ensures { IfOk result (λ _. IsPermutation (weighing weight open.entry ∷ waiting_in buckets.old.entries) (waiting_in buckets.new.entries)) }
 {
-    let mut best = 0;
-    for place in 0..items.len() {
-        best = lighter(items, best, place);
+    match buckets.get_mut(&weight) {
+        Some(bucket) => join(bucket, open),
+        None => {
+            let bucket = Bucket {
+                first: open,
+                more: Vec::new(alloc),
+            };
+            match buckets.insert(weight, bucket) {
+                Ok(_) => Ok(()),
+                Err(_) => Err(NoMemory),
+            }
+        }
     }
-    best
+}
+
+/// Takes a set out of a bucket that is no longer among the others, and puts what is left of it back.
+fn take<'a>(
+    buckets: &mut BTreeMap<Weight, Bucket<'a>>,
+    weight: Weight,
+    bucket: Bucket<'a>,
+) -> Result<Open<'a>, NoMemory>
+    requires { IsAbsent weight buckets.old.entries }
+    ensures { IfOk result (λ set. IsPermutation (weighed weight bucket.entry ++ waiting_in buckets.old.entries) (weighing weight set ∷ waiting_in buckets.new.entries)) }
+{
+    let Bucket { first, mut more } = bucket;
+    let Some(last) = more.pop() else {
+        return Ok(first);
+    };
+    match buckets.insert(weight, Bucket { first, more }) {
+        Ok(_) => Ok(last),
+        Err(_) => Err(NoMemory),
+    }
 }
 
 impl<'a> Queue<'a> {
@@ -41,28 +92,34 @@ impl<'a> Queue<'a> {
         ensures { waiting_of result ≡ [] }
     {
         Queue {
-            items: Vec::new(alloc),
+            alloc,
+            buckets: BTreeMap::new(alloc),
         }
     }
 
     pub fn push(&mut self, item: Item<'a>) -> Result<(), NoMemory>
-        ensures { IfOk result (λ _. waiting_of self.new ≡ waiting_of self.old ++ item.entry ∷ []) }
+        ensures { IfOk result (λ _. IsPermutation (item.entry ∷ waiting_of self.old) (waiting_of self.new)) }
     {
-        match self.items.push(item) {
-            Ok(()) => Ok(()),
-            Err(_) => Err(NoMemory),
-        }
+        let open = Open {
+            todo: item.todo,
+            given: item.given,
+        };
+        put(self.alloc, &mut self.buckets, item.weight, open)
     }
 
-    /// Takes out an item of least weight.
-    pub fn pop(&mut self) -> Option<Item<'a>>
-        ensures some { IfSome result (λ i. Takes (waiting_of self.old) i (waiting_of self.new)) }
-        ensures none { IfNone result (waiting_of self.old ≡ []) }
+    /// Takes out an item of least weight, in a time that grows with the logarithm of the number of weights.
+    pub fn pop(&mut self) -> Result<Option<Item<'a>>, NoMemory>
+        ensures some { IfOk result (λ o. IfSome o (λ i. Takes (waiting_of self.old) i (waiting_of self.new))) }
+        ensures none { IfOk result (λ o. IfNone o (waiting_of self.old ≡ [])) }
     {
-        if self.items.is_empty() {
-            return None;
-        }
-        let place = lightest(self.items.as_slice());
-        Some(self.items.swap_remove(place))
+        let Some((weight, bucket)) = self.buckets.pop_first() else {
+            return Ok(None);
+        };
+        let open = take(&mut self.buckets, weight, bucket)?;
+        Ok(Some(Item {
+            weight,
+            todo: open.todo,
+            given: open.given,
+        }))
     }
 }

@@ -102,7 +102,7 @@ fn turn<'a>(
     if walks.len() == k as u64 {
         return Ok(Some(KEnd::Enough));
     }
-    let Some(item) = queue.pop() else {
+    let Some(item) = queue.pop()? else {
         return Ok(Some(KEnd::NoMore));
     };
     let Weight::Known { cost, hops } = item.weight else {

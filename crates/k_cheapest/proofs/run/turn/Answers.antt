@@ -17,31 +17,34 @@ returns-then-len-k-clause-ended c =
 pub returns-in_default-clause-ended : goal.returns-in_default-clause-ended
 returns-in_default-clause-ended c =
     let fewer : length c.args.walks.now < c.args.k = omega arith in
+    let none = rw c.in_default.is at c.in_ok-item.ensures.none in
     ended (steps_in c.args.setting) (starts_in c.args.setting) (targets_in c.args.setting) c.args.setting.limit c.args.walks.now (waiting_of c.args.queue.now) c.requires.searches
     c.args.k ends.NoMore c.requires.few
-    (fewer, none_other (steps_in c.args.setting) (starts_in c.args.setting) (targets_in c.args.setting) c.args.setting.limit c.args.walks.now (waiting_of c.args.queue.now) c.requires.searches c.in_default.ensures.none)
+    (fewer, none_other (steps_in c.args.setting) (starts_in c.args.setting) (targets_in c.args.setting) c.args.setting.limit c.args.walks.now (waiting_of c.args.queue.now) c.requires.searches none)
 
 pub returns-in_default-weight-clause-ended : goal.returns-in_default-weight-clause-ended
 returns-in_default-weight-clause-ended c =
     let fewer : length c.args.walks.now < c.args.k = omega arith in
+    let some = rw c.in-Some.is at c.in_ok-item.ensures.some in
     let past : c.in-Some.item.weight ≡ Past = c.in_default-weight.is in
     ended (steps_in c.args.setting) (starts_in c.args.setting) (targets_in c.args.setting) c.args.setting.limit c.args.walks.now (waiting_of c.args.queue.now) c.requires.searches
     c.args.k ends.Past c.requires.few
     (ends_past (steps_in c.args.setting) (starts_in c.args.setting) (targets_in c.args.setting) c.args.setting.limit c.args.walks.now (waiting_of c.args.queue.now) c.requires.searches
-    c.in-Some.item (waiting_of c.pop.new.self) c.in-Some.ensures.some c.args.k fewer past)
+    c.in-Some.item (waiting_of c.pop.new.self) some c.args.k fewer past)
 
 pub returns-then-hops-setting-clause-ended : goal.returns-then-hops-setting-clause-ended
 returns-then-hops-setting-clause-ended c =
     let fewer : length c.args.walks.now < c.args.k = omega arith in
+    let some = rw c.in-Some.is at c.in_ok-item.ensures.some in
     let over : c.args.setting.limit < c.in-Known.hops = omega arith in
     ended (steps_in c.args.setting) (starts_in c.args.setting) (targets_in c.args.setting) c.args.setting.limit c.args.walks.now (waiting_of c.args.queue.now) c.requires.searches
     c.args.k (ends.Long c.in-Known.cost c.in-Known.hops) c.requires.few
     (ends_long (steps_in c.args.setting) (starts_in c.args.setting) (targets_in c.args.setting) c.args.setting.limit c.args.walks.now (waiting_of c.args.queue.now) c.requires.searches
-    c.in-Some.item (waiting_of c.pop.new.self) c.in-Some.ensures.some c.args.k c.in-Known.cost c.in-Known.hops fewer c.in-Known.is over)
+    c.in-Some.item (waiting_of c.pop.new.self) some c.args.k c.in-Known.cost c.in-Known.hops fewer c.in-Known.is over)
 
 pub step_further-requires-clause-next : goal.step_further-requires-clause-next
 step_further-requires-clause-next c =
-    let takes : Takes (waiting_of c.args.queue.now) c.in-Some.item (waiting_of c.pop.new.self) = c.in-Some.ensures.some in
+    let takes : Takes (waiting_of c.args.queue.now) c.in-Some.item (waiting_of c.pop.new.self) = rw c.in-Some.is at c.in_ok-item.ensures.some in
     let within : c.in-Known.hops ≤ c.args.setting.limit = omega arith in
     record {
       searches = taken_out (steps_in c.args.setting) (starts_in c.args.setting) (targets_in c.args.setting) c.args.setting.limit c.args.walks.now (waiting_of c.args.queue.now)
