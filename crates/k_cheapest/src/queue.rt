@@ -34,10 +34,10 @@ pub struct Queue<'a> {
 }
 
 /// Puts a set behind the others of a bucket.
-fn join<'a>(bucket: &mut Bucket<'a>, open: Open<'a>) -> Result<(), NoMemory>
-    ensures { IfOk result (λ _. opens_of bucket.new ≡ opens_of bucket.old ++ open.entry ∷ []) }
+fn join<'a>(bucket: &mut Bucket<'a>, set: Open<'a>) -> Result<(), NoMemory>
+    ensures { IfOk result (λ _. opens_of bucket.new ≡ opens_of bucket.old ++ set.entry ∷ []) }
 {
-    match bucket.more.push(open) {
+    match bucket.more.push(set) {
         Ok(()) => Ok(()),
         Err(_) => Err(NoMemory),
     }
@@ -48,15 +48,15 @@ fn put<'a>(
     alloc: Global,
     buckets: &mut BTreeMap<Weight, Bucket<'a>>,
     weight: Weight,
-    open: Open<'a>,
+    set: Open<'a>,
 ) -> Result<(), NoMemory>
-    ensures { IfOk result (λ _. IsPermutation (weighing weight open.entry ∷ waiting_in buckets.old.entries) (waiting_in buckets.new.entries)) }
+    ensures { IfOk result (λ _. IsPermutation (weighing weight set.entry ∷ waiting_in buckets.old.entries) (waiting_in buckets.new.entries)) }
 {
     match buckets.get_mut(&weight) {
-        Some(bucket) => join(bucket, open),
+        Some(bucket) => join(bucket, set),
         None => {
             let bucket = Bucket {
-                first: open,
+                first: set,
                 more: Vec::new(alloc),
             };
             match buckets.insert(weight, bucket) {
@@ -100,11 +100,11 @@ impl<'a> Queue<'a> {
     pub fn push(&mut self, item: Item<'a>) -> Result<(), NoMemory>
         ensures { IfOk result (λ _. IsPermutation (item.entry ∷ waiting_of self.old) (waiting_of self.new)) }
     {
-        let open = Open {
+        let set = Open {
             todo: item.todo,
             given: item.given,
         };
-        put(self.alloc, &mut self.buckets, item.weight, open)
+        put(self.alloc, &mut self.buckets, item.weight, set)
     }
 
     /// Takes out an item of least weight, in a time that grows with the logarithm of the number of weights.
@@ -115,11 +115,11 @@ impl<'a> Queue<'a> {
         let Some((weight, bucket)) = self.buckets.pop_first() else {
             return Ok(None);
         };
-        let open = take(&mut self.buckets, weight, bucket)?;
+        let set = take(&mut self.buckets, weight, bucket)?;
         Ok(Some(Item {
             weight,
-            todo: open.todo,
-            given: open.given,
+            todo: set.todo,
+            given: set.given,
         }))
     }
 }
