@@ -1,0 +1,15 @@
+pub mod Leasts
+pub mod Heads
+pub mod Adding
+pub mod Parting
+pub mod Offering
+pub mod Ordering
+pub mod Buckets
+pub mod Filing
+pub mod Numbers
+pub mod Capping
+pub mod Further
+pub mod Finish
+pub mod Beginning
+pub mod Unlisted
+pub mod OneKind

@@ -1,0 +1,10 @@
+pub mod KLists
+pub mod Ways
+pub mod Todos
+pub mod Givens
+pub mod Settings
+pub mod Buckets
+pub mod Items
+pub mod Choices
+pub mod Nests
+pub mod Searching
