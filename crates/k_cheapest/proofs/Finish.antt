@@ -7,8 +7,8 @@ use Rattle.ml_base.proofs.Laws.{at_most-trans}
 use Rattle.adapt_machine.specs.declared.MachineStep.{MachineStep}
 use Rattle.adapt_machine.specs.Walks.{weight_of}
 use Rattle.k_cheapest.specs.declared.found.KWalk.{KWalk}
-use Rattle.k_cheapest.specs.declared.found.KEnd.{KEnd}
-use Rattle.k_cheapest.specs.declared.found.KEnd.TheVariants as ends
+use Rattle.ml_base.specs.declared.ends.KEnd.{KEnd}
+use Rattle.ml_base.specs.declared.ends.KEnd.TheVariants as ends
 use Rattle.k_cheapest.specs.declared.item.Item.{Item}
 use Rattle.k_cheapest.specs.KLists.{IsListable, IsOther, IsEnd, IsKList, numbers_of}
 use Rattle.k_cheapest.specs.Items.{Has, IsCovered, Takes}

@@ -10,8 +10,8 @@ use Rattle.walk_grammar.specs.System.{Run, cost_of}
 use Rattle.adapt_machine.specs.declared.MachineStep.{MachineStep}
 use Rattle.adapt_machine.specs.Walks.{system_of, weight_of}
 use Rattle.k_cheapest.specs.declared.found.KWalk.{KWalk}
-use Rattle.k_cheapest.specs.declared.found.KEnd.{KEnd}
-use Rattle.k_cheapest.specs.declared.found.KEnd.TheVariants.{Enough, NoMore, Past, Long}
+use Rattle.ml_base.specs.declared.ends.KEnd.{KEnd}
+use Rattle.ml_base.specs.declared.ends.KEnd.TheVariants.{Enough, NoMore, Past, Long}
 
 -- the steps run from a start to a target, with the empty stack at both ends
 abbrev pub IsWalk : List MachineStep → List StateNo → List StateNo → List ℕ → Type 0

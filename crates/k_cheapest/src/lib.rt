@@ -24,6 +24,6 @@ mod tests;
 mod todo;
 mod ways;
 
-pub use found::{KEnd, KFound, KSteps, KWalk, KWalkList};
+pub use found::{KFound, KSteps, KWalk, KWalkList};
 pub use laws::machine_steps_have_kinds;
 pub use run::k_best;

@@ -13,7 +13,7 @@ ghost use Rattle.k_cheapest.specs.Settings.{steps_in, starts_in, targets_in, IsS
 
 use crate::choice::Choice;
 use crate::expand::{expand, put};
-use crate::found::{KEnd, KFound, KWalkList};
+use crate::found::{KFound, KWalkList};
 use crate::given::{Given, before, nothing};
 use crate::item::Item;
 use crate::listing::list;
@@ -24,7 +24,7 @@ use crate::ways::Ways;
 use adapt_machine::Machine;
 use bumpalo::Bump;
 use knuth_search::search;
-use ml_base::{NoMemory, Root, StateNo, Weight};
+use ml_base::{KEnd, NoMemory, Root, StateNo, Weight};
 use segment_grammar::{Index, Potentials};
 use std::alloc::Global;
 

@@ -1,10 +1,10 @@
 ghost use Rattle.std.specs.Prelude.{◌<◌};
 
 use crate::enumeration::weights;
-use crate::{KEnd, KFound, k_best};
+use crate::{KFound, k_best};
 use adapt_machine::Machine;
 use adapt_machine::MachineKind::{self, Flat, Pop, Push};
-use ml_base::{FrameNo, NoMemory, StateNo, StepNo, Weight};
+use ml_base::{FrameNo, KEnd, NoMemory, StateNo, StepNo, Weight};
 use segment_grammar::Index;
 use std::alloc::Global;
 use std::test::Fail;

@@ -72,20 +72,16 @@ impl Id {
     pub fn share(&self) -> Result<Id, NoMemory>
         ensures { IfOk result (λ id. id ≡ self.now) }
     {
-        match self.text.clone() {
-            Ok(text) => Ok(Id { text }),
-            Err(_) => Err(NoMemory),
-        }
+        let text = self.text.clone()?;
+        Ok(Id { text })
     }
 
     /// The shared text, as a key of a map that is looked up by texts.
     pub fn key(&self) -> Result<RcStr<Global>, NoMemory>
         ensures { IfOk result (λ key. rc_str_bytes key ≡ self.now) }
     {
-        match self.text.clone() {
-            Ok(text) => Ok(text),
-            Err(_) => Err(NoMemory),
-        }
+        let text = self.text.clone()?;
+        Ok(text)
     }
 
     /// The text of the id.

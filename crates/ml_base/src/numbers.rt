@@ -1,9 +1,24 @@
+use std::alloc::{AllocError, AllocFailed};
 use thiserror::Error;
 
 /// Memory ran out.
 #[derive(Clone, Copy, Debug, PartialEq, Eq, Error)]
 #[error("out of memory")]
 pub struct NoMemory;
+
+/// So that `?` carries a refused allocation on.
+impl From<AllocError> for NoMemory {
+    fn from(refused: AllocError) -> NoMemory {
+        NoMemory
+    }
+}
+
+/// So that `?` carries a refused `push` on. The value that was not stored is dropped.
+impl<T: Drop> From<AllocFailed<T>> for NoMemory {
+    fn from(refused: AllocFailed<T>) -> NoMemory {
+        NoMemory
+    }
+}
 
 /// A label, or none.
 pub type Tag = Option<u32>;

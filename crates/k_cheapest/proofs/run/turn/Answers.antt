@@ -1,6 +1,6 @@
 use Rattle.std.proofs.Common.{arith, ◌≡◌, ◌<◌, ◌≤◌, length, sym, subst}
 use Rattle.ml_base.specs.declared.weight.Weight.TheVariants.{Past}
-use Rattle.k_cheapest.specs.declared.found.KEnd.TheVariants as ends
+use Rattle.ml_base.specs.declared.ends.KEnd.TheVariants as ends
 use Rattle.k_cheapest.specs.Items.{waiting_of, Takes}
 use Rattle.k_cheapest.specs.Searching.{IsLight}
 use Rattle.k_cheapest.specs.Settings.{steps_in, starts_in, targets_in}
