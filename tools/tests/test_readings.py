@@ -31,9 +31,9 @@ class Readings:
 
 def network_of(lines: list[str]) -> bytes:
     """A topology file of elements in shorthand or in JSON."""
-    encoding = next((line.removeprefix("encoding ") for line in lines if line.startswith("encoding ")), None)
-    elements = [REPEATED.sub(lambda it: it[1] * int(it[2]), line) for line in lines if not line.startswith("encoding ")]
-    tree = json.loads(topology("d", *(it for it in elements if not it.startswith("{")), encoding=encoding))
+    told = dict(line.split(" ") for line in lines if line.startswith(("topology ", "encoding ")))
+    elements = [REPEATED.sub(lambda it: it[1] * int(it[2]), line) for line in lines if not line.startswith(("topology ", "encoding "))]
+    tree = json.loads(topology(told.get("topology", "d"), *(it for it in elements if not it.startswith("{")), encoding=told.get("encoding")))
     short = iter(tree["elements"])
     tree["elements"] = [json.loads(it) if it.startswith("{") else next(short) for it in elements]
     return json.dumps(tree).encode()
@@ -67,11 +67,17 @@ def read(text: str) -> Readings:
             readings.files[name] = network_of(lines)
         elif kind == "document":
             readings.files[name] = "".join(line + "\n" for line in lines).encode()
+        elif kind == "blank":
+            readings.files[name] = b" " * int(lines[0])
         elif kind == "row":
             readings.rows.append(row_of(name, lines))
         elif first:
             raise ValueError(f"no block: {first!r}")
     return readings
+
+
+def is_document(data: bytes) -> bool:
+    return not data.startswith((b"{", b" "))
 
 
 def content(row: Row, data: bytes) -> bytes:
@@ -85,14 +91,13 @@ def content(row: Row, data: bytes) -> bytes:
 class ReadingsTest(FolderTest):
     def test_rows(self) -> None:
         readings = read(TEXT.read_text())
-        self.assertEqual(len({row.shown for row in readings.rows}), 103)
+        self.assertEqual(len({row.shown for row in readings.rows}), 162)
         for row in readings.rows:
             with self.subTest(row.shown):
                 for word in row.words:
                     data = readings.files.get(word)
                     if data is not None:
-                        is_document = not data.startswith(b"{")
-                        (self.folder / word).write_bytes(content(row, data) if is_document else data)
+                        (self.folder / word).write_bytes(content(row, data) if is_document(data) else data)
                 ran = run_finder(*row.words, folder=self.folder)
                 self.assertEqual((ran.returncode, ran.stdout.decode()), (row.status, row.printed))
 
