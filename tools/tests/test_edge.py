@@ -9,11 +9,12 @@ from common import FolderTest, finder_path, needs_finder, run_finder, topology
 USAGE = b"usage: find|route FROM LABEL TO LABEL FILE.. | check|replay ANSWER FILE.. | survey FILE.. | drill N\n"
 COUNTS = b"survey\ndomain d 3\nports 2\nclasses 2\nlinks 1\nservices 0\nopen-references 0\n"
 LITTLE_MEMORY = 16 << 20
+ENOUGH_MEMORY = 256 << 20
 
 
-def run_in_little_memory(words: list[str]) -> subprocess.CompletedProcess[bytes]:
+def run_in_memory(room: int, words: list[str]) -> subprocess.CompletedProcess[bytes]:
     def limit() -> None:
-        resource.setrlimit(resource.RLIMIT_AS, (LITTLE_MEMORY, LITTLE_MEMORY))
+        resource.setrlimit(resource.RLIMIT_AS, (room, room))
 
     return subprocess.run([str(finder_path()), *words], capture_output=True, preexec_fn=limit, check=False)
 
@@ -28,9 +29,9 @@ class WordsTest(unittest.TestCase):
 
     def test_no_memory_for_the_words(self) -> None:
         """Of 150,000 words, the texts and the list of them need more than this; one word does not."""
-        ran = run_in_little_memory(["drill"])
+        ran = run_in_memory(LITTLE_MEMORY, ["drill"])
         self.assertEqual((ran.returncode, ran.stdout), (2, USAGE))
-        ran = run_in_little_memory(["a"] * 150_000)
+        ran = run_in_memory(LITTLE_MEMORY, ["a"] * 150_000)
         self.assertEqual((ran.returncode, ran.stdout), (10, b""))
         ran = run_finder(*["a"] * 150_000)
         self.assertEqual((ran.returncode, ran.stdout), (2, USAGE))
@@ -52,6 +53,11 @@ class EdgeTest(FolderTest):
             with self.subTest(name=name):
                 ran = run_finder("survey", name, folder=self.folder)
                 self.assertEqual((ran.returncode, ran.stdout), (status, printed))
+
+    @unittest.skipUnless(os.path.exists("/dev/zero"), "there is no /dev/zero")
+    def test_a_file_without_end_is_read_up_to_its_limit(self) -> None:
+        ran = run_in_memory(ENOUGH_MEMORY, ["survey", "/dev/zero"])
+        self.assertEqual((ran.returncode, ran.stdout), (11, b"read 1 too-big\n"))
 
     def survey_into(self, out: int) -> int:
         return subprocess.run([str(finder_path()), "survey", self.file], stdout=out, check=False).returncode
