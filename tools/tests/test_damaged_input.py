@@ -24,7 +24,7 @@ class DamagedInput(FolderTest):
     def test_no_difference(self) -> None:
         ran = sent(str(finder_path()), "--seed", "1", "--seconds", str(SECONDS))
         self.assertEqual((ran.returncode, ran.stderr), (0, ""), ran.stdout)
-        self.assertRegex(ran.stdout, r"\n[1-9]\d* inputs, no difference; by status 0: ")
+        self.assertRegex(ran.stdout, r"\n[1-9]\d* inputs?, no difference; by status ")
 
     def test_a_difference_is_told(self) -> None:
         """With the seed that makes it again."""
