@@ -189,10 +189,19 @@ fn lifetimes_that_are_none(rt: HostRuntime) -> Result<(), Fail> {
         r#"{"start":9,"end":8}"#,
     ];
     for row in rows {
-        let text = format!(in rt.alloc(); r#"{{"format":1,"topology":"d","elements":[{{"type":"Link","id":"l","existsDuring":{row}}}]}}"#)?;
+        let text = format!(in rt.alloc();
+            r#"{{"format":1,"topology":"d","elements":[{{"type":"Link","id":"l","existsDuring":{row}}}]}}"#
+        )?;
         match read_domain(rt.alloc(), text.as_bytes()) {
             Ok(_) => assert!(rt; false, "taken: {row}"),
-            Err(fault) => assert_eq!(rt; fault, ReadFault::Shape { element: 1, rule: 15 }, "of {row}"),
+            Err(fault) => assert_eq!(rt;
+                fault,
+                ReadFault::Shape {
+                    element: 1,
+                    rule: 15
+                },
+                "of {row}"
+            ),
         }
     }
     Ok(())
@@ -211,7 +220,9 @@ fn lifetimes_that_are_read(rt: HostRuntime) -> Result<(), Fail> {
         ),
     ];
     for (row, want) in rows {
-        let text = format!(in rt.alloc(); r#"{{"format":1,"topology":"d","elements":[{{"type":"Link","id":"l","existsDuring":{row}}}]}}"#)?;
+        let text = format!(in rt.alloc();
+            r#"{{"format":1,"topology":"d","elements":[{{"type":"Link","id":"l","existsDuring":{row}}}]}}"#
+        )?;
         let domain = read_domain(rt.alloc(), text.as_bytes())?;
         match domain.elements.get(0) {
             Some(entry) => assert!(rt; entry.lifetime == want, "of {row}"),
@@ -223,7 +234,8 @@ fn lifetimes_that_are_read(rt: HostRuntime) -> Result<(), Fail> {
 
 #[test]
 fn what_is_there_throughout_a_window(rt: HostRuntime) -> Result<(), Fail> {
-    let text = r#"{"elements":[{"id":"a","isSource":["l1","l2"],"type":"Port"},{"id":"b","isSink":["l1","l2"],"type":"Port"},{"cost":1,"existsDuring":{"end":200,"start":100},"id":"l1","type":"Link"},{"cost":5,"id":"l2","type":"Link"}],"format":1,"topology":"d"}"#;
+    let text =
+        r#"{"elements":[{"id":"a","isSource":["l1","l2"],"type":"Port"},{"id":"b","isSink":["l1","l2"],"type":"Port"},{"cost":1,"existsDuring":{"end":200,"start":100},"id":"l1","type":"Link"},{"cost":5,"id":"l2","type":"Link"}],"format":1,"topology":"d"}"#;
     let life = read_domain(rt.alloc(), text.as_bytes())?;
     let written = write_domain(rt.alloc(), &life)?;
     assert_eq!(rt; written.as_slice(), text.as_bytes());
