@@ -1,7 +1,6 @@
 -- Where no key stands twice in a list, none does in a part of it, and a search by the key finds the same item or none.
 use Rattle.std.proofs.Common.{◌≡◌, ◌⊎◌, inl, inr, List, [], ◌∷◌, ◌++◌, Bool, true, false, ◌||◌, cond, Option, None, Some, refl, sym, ◌∙◌, ap, subst, map}
-use Rattle.std.specs.List.{list_any, find, cons_option}
-use Rattle.std.specs.Option.{option_map}
+use Rattle.std.specs.List.{list_any, find}
 use Rattle.std.specs.Str.{bytes_eq}
 use Rattle.std.proofs.lemmas.Bool.{or_parts, or_from}
 use Rattle.std.proofs.lemmas.Slice.Eq.{bytes_eq-Decides}

@@ -1,6 +1,6 @@
 -- What is accepted whole is accepted throughout any window: what is gone leaves open references, and no fault.
-use Rattle.std.proofs.Common.{◌≡◌, ◌⊎◌, inl, inr, ℕ, ◌+◌, List, [], ◌∷◌, ◌++◌, Bool, true, false, ◌&&◌, ◌||◌, not, cond, IsTrue, Option, None, Some, is_none, unwrap_or, refl, sym, ◌∙◌, ap, subst, map, filter}
-use Rattle.std.specs.List.{list_any, find, filter_map, flat_map, cons_option, enumerate_from, AllByRecursion}
+use Rattle.std.proofs.Common.{◌≡◌, ◌⊎◌, inl, inr, ℕ, ◌+◌, List, [], ◌∷◌, ◌++◌, Bool, true, false, ◌&&◌, ◌||◌, not, cond, Option, None, Some, is_none, unwrap_or, refl, sym, ◌∙◌, ap, subst, map, filter}
+use Rattle.std.specs.List.{list_any, find, filter_map, flat_map, enumerate_from, AllByRecursion}
 use Rattle.std.specs.Option.{option_map}
 use Rattle.std.specs.Str.{bytes_eq}
 use Rattle.std.proofs.lemmas.Bool.{or_cases, and_parts, and_from, not-false}
@@ -26,7 +26,7 @@ use Rattle.circuit_spec.specs.declared.faults.LayerFault.TheVariants.{LinkLayer,
 use Rattle.circuit_spec.specs.Network.{Name, Topology, Placed, Port, ports, port_at, port_has, names, id_of, placed_in, elements_of, element_named, states_alias, related, Chain, Linked}
 use Rattle.circuit_spec.specs.Steps.{node_at, nodes_of, has_encoding, ports_of_service, inbound_of, outbound_of}
 use Rattle.circuit_spec.specs.Kept.{link_at, links}
-use Rattle.circuit_spec.specs.Faults.{Located, located, located_in, Relation, relations_of, is_wrong, wrong_targets, wrong_kinds, repeats_after, duplicate_topologies, duplicate_ids, merge_faults, has_other, same_type, type_of, first_other, layer_faults, own_type, link_faults, switch_at, switches, switch_faults, relating_faults, ClassesFit, IsSound, IsAccepted}
+use Rattle.circuit_spec.specs.Faults.{Located, located, located_in, Relation, relations_of, is_wrong, wrong_targets, wrong_kinds, repeats_after, duplicate_topologies, duplicate_ids, merge_faults, has_other, same_type, type_of, first_other, layer_faults, own_type, link_faults, switch_at, switches, switch_faults, relating_faults, ClassesFit, IsAccepted}
 use Rattle.circuit_spec.specs.Windows.{topology_during}
 use Rattle.circuit_spec.proofs.Lists.{none_found, both_empty, each_empty, no_option}
 use Rattle.circuit_spec.proofs.Types.{same_type_true}

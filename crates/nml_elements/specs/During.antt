@@ -1,5 +1,5 @@
 -- What is there of a domain throughout a window.
-use Rattle.std.specs.Prelude.{List, Bool, filter}
+use Rattle.std.specs.Prelude.{Bool, filter}
 use Rattle.nml_elements.specs.declared.elements.Entry.{Entry}
 use Rattle.nml_elements.specs.declared.elements.Domain.{Domain}
 use Rattle.nml_elements.specs.Lifetimes.{Interval, exists_throughout}
