@@ -1,5 +1,5 @@
 -- Equal lists, ports and links, as they are copied.
-use Rattle.std.proofs.Common.{◌≡◌, ℕ, ◌+◌, ◌<◌, ◌≤◌, List, [], ◌∷◌, ◌++◌, IsTrue, length, take, get_or, filter, refl, sym, ap, ◌∙◌, subst}
+use Rattle.std.proofs.Common.{◌≡◌, ℕ, ◌+◌, ◌<◌, ◌≤◌, List, [], ◌∷◌, ◌++◌, IsTrue, Option, length, take, get_or, filter, refl, sym, ap, ◌∙◌, subst}
 use Rattle.std.proofs.lemmas.List.{take_more, take_all}
 use Rattle.std.proofs.lemmas.List.Elements.{filter-append}
 use Rattle.nml_elements.specs.declared.elements.Labels.{Labels}
@@ -48,6 +48,31 @@ pub same_port : (p : PortE) (labels : Labels) → labels ≡ p.labels → (fits 
 same_port p labels e =
     subst (λ (xs : Labels). (fits : IsTrue (fits_group p.group xs)) → port_with p xs fits ≡ p) (sym e)
     (λ fits. ap (port_with p p.labels) (fits_once p.group p.labels fits p.labelled))
+
+abbrev port_of_parts : (p : PortE) → List ℕ → Option (List ℕ) → List (List ℕ) → List (List ℕ) → List (List ℕ) → List (List ℕ) → (labels : Labels) → IsTrue (fits_group p.group labels) → PortE
+port_of_parts p id encoding sources sinks services aliases labels fits = record {
+  id = id;
+  group = p.group;
+  encoding = encoding;
+  labels = labels;
+  sources = sources;
+  sinks = sinks;
+  services = services;
+  aliases = aliases;
+  labelled = fits;
+}
+
+pub same_parts : (p : PortE) (id : List ℕ) (encoding : Option (List ℕ)) (sources sinks services aliases : List (List ℕ)) (labels : Labels)
+    → id ≡ p.id → encoding ≡ p.encoding → sources ≡ p.sources → sinks ≡ p.sinks → services ≡ p.services → aliases ≡ p.aliases → labels ≡ p.labels
+    → (fits : IsTrue (fits_group p.group labels)) → port_of_parts p id encoding sources sinks services aliases labels fits ≡ p
+same_parts p id encoding sources sinks services aliases labels e-id e-encoding e-sources e-sinks e-services e-aliases e-labels fits =
+    ap (λ x. port_of_parts p x encoding sources sinks services aliases labels fits) e-id
+    ∙ ap (λ x. port_of_parts p p.id x sources sinks services aliases labels fits) e-encoding
+    ∙ ap (λ x. port_of_parts p p.id p.encoding x sinks services aliases labels fits) e-sources
+    ∙ ap (λ x. port_of_parts p p.id p.encoding p.sources x services aliases labels fits) e-sinks
+    ∙ ap (λ x. port_of_parts p p.id p.encoding p.sources p.sinks x aliases labels fits) e-services
+    ∙ ap (λ x. port_of_parts p p.id p.encoding p.sources p.sinks p.services x labels fits) e-aliases
+    ∙ same_port p labels e-labels fits
 
 abbrev link_with : (l : LinkE) (labels : Labels) → IsTrue (fits_group l.group labels) → LinkE
 link_with l labels fits = record { id = l.id; group = l.group; encoding = l.encoding; labels = labels; cost = l.cost; labelled = fits }
