@@ -479,6 +479,9 @@ def fixed_files():
         yield from (bare(kind=f"Link{escape}"), bare(name=f"l{escape}"), bare(f',"id{escape}":"m"'))
     for text in LABEL_TEXTS + ["1-4294967295,0", "4294967295,", "1-4294967295-", "0,0,0", "1-1-", "-", ",", "1,-", "1-,2", "1-5,6-7,"]:
         yield bare(',"hasLabelGroup":{"labeltype":"v","values":%s}' % json.dumps(text), kind="LinkGroup")
+    for start in (*NUMBERS, *FLOATS, '"1"', "null", "true"):
+        yield from (bare(',"existsDuring":{"%s":%s}' % (name, start)) for name in ("start", "end"))
+        yield from (bare(',"existsDuring":{"start":%s,"end":%s}' % pair) for pair in ((start, 9), (9, start), (start, start)))
     for depth in range(120, 131):
         for value in ("[" * depth + "]" * depth, '{"a":' * depth + "1" + "}" * depth):
             yield from (value.encode(), bare(f',"x":{value}'), bare(behind=f',"x":{value}'))

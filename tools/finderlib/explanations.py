@@ -123,6 +123,7 @@ SHAPES: dict[int, tuple[str, str]] = {
     12: ("cost", "a whole number from 0 to 18446744073709551615, without a point, an exponent or quotes; or it is left out, which means 1"),
     13: ("hasLabel", "an object with \"labeltype\", an id, and \"value\", a whole number from 0 to 4294967295; or it is left out"),
     14: ("hasLabelGroup", "an object with \"labeltype\", an id, and \"values\", a text such as \"100-200,300\"; or it is left out"),
+    15: ("existsDuring", "an object with \"start\", a whole number, or 0 where it is left out, and \"end\", a greater whole number, or no end where it is left out; both at most 18446744073709551615; or it is left out, which means always"),
 }
 
 

@@ -9,7 +9,7 @@ from finderlib.loose import LooseFile, Object, read_loosely, shown, title
 from finderlib.topologies import ADAPTATIONS, LINKS, MEMBERS, PORTS, Domain, Element, Labels, Network, meet, read_domain
 
 FILE_MEMBERS = ("format", "topology", "encoding", "elements")
-LABEL_MEMBERS = {"hasLabel": ("labeltype", "value"), "hasLabelGroup": ("labeltype", "values")}
+NESTED_MEMBERS = {"hasLabel": ("labeltype", "value"), "hasLabelGroup": ("labeltype", "values"), "existsDuring": ("start", "end")}
 HINTS_MOST = 64  # longer names get no hint
 
 # types and members of NML that are left out, and what stands in their place
@@ -73,7 +73,7 @@ def file_findings(number: int, file: LooseFile) -> Iterator[Finding]:
             yield Finding(number, place, "unread-type", title(entry), f"the type {shown(kind)} is read over{type_hint(kind)}")
             continue
         yield from object_findings(number, place, title(entry), entry, ("type", "id", *MEMBERS[kind]), kind)
-        for member, names in LABEL_MEMBERS.items():
+        for member, names in NESTED_MEMBERS.items():
             if member in MEMBERS[kind] and isinstance(entry.get(member), Object):
                 yield from object_findings(number, place, title(entry), entry[member], names, member)
 

@@ -15,6 +15,7 @@ FILES_MOST = 64
 ELEMENTS_MOST = 16_777_216
 NESTING_MOST = 127
 COST_LIMIT = 2**64
+TIME_LIMIT = 2**64
 LABEL_LIMIT = 2**32
 COST_ABSENT = 1
 ENCODING_ABSENT = "none"
@@ -26,17 +27,18 @@ SERVICES = ADAPTATIONS | {"SwitchingService", "ConversionService"}
 
 _PORT_MEMBERS = ("isSource", "isSink", "hasService", "isAlias")
 _TWO_WAYS = ("hasInboundPort", "hasOutboundPort")
+LIFETIME = "existsDuring"
 # the members of each type that is read, behind its id, in the order in which they are looked at
 MEMBERS: dict[str, tuple[str, ...]] = {
-    "Node": (*_TWO_WAYS, "hasService"),
-    "Port": ("encoding", "hasLabel", *_PORT_MEMBERS),
-    "PortGroup": ("encoding", "hasLabelGroup", *_PORT_MEMBERS),
-    "Link": ("encoding", "hasLabel", "cost"),
-    "LinkGroup": ("encoding", "hasLabelGroup", "cost"),
-    "SwitchingService": ("encoding", "labelSwapping", "cost", *_TWO_WAYS),
-    "AdaptationService": ("adaptationFunction", "cost", "providesPort"),
-    "DeadaptationService": ("adaptationFunction", "cost", "providesPort"),
-    "ConversionService": ("cost", *_TWO_WAYS),
+    "Node": (*_TWO_WAYS, "hasService", LIFETIME),
+    "Port": ("encoding", "hasLabel", *_PORT_MEMBERS, LIFETIME),
+    "PortGroup": ("encoding", "hasLabelGroup", *_PORT_MEMBERS, LIFETIME),
+    "Link": ("encoding", "hasLabel", "cost", LIFETIME),
+    "LinkGroup": ("encoding", "hasLabelGroup", "cost", LIFETIME),
+    "SwitchingService": ("encoding", "labelSwapping", "cost", *_TWO_WAYS, LIFETIME),
+    "AdaptationService": ("adaptationFunction", "cost", "providesPort", LIFETIME),
+    "DeadaptationService": ("adaptationFunction", "cost", "providesPort", LIFETIME),
+    "ConversionService": ("cost", *_TWO_WAYS, LIFETIME),
 }
 RELATIONS = frozenset({*_PORT_MEMBERS, *_TWO_WAYS, "providesPort"})
 
@@ -73,6 +75,16 @@ class Labels:
         return ",".join(str(low) if low == high else f"{low}-{high}" for low, high in self.ranges)
 
 
+@dataclass(frozen=True, slots=True)
+class Lifetime:
+    """From a start on, and up to an end if there is one. The end is above the start."""
+    start: int
+    end: int | None
+
+    def tree(self) -> dict[str, int]:
+        return {"start": self.start} | ({} if self.end is None else {"end": self.end})
+
+
 @dataclass(slots=True)
 class Element:
     """An element that is read. `file` and `number` count from 1; `encoding` is what it states itself."""
@@ -86,6 +98,7 @@ class Element:
     swapping: bool = False
     function: str = ""
     relations: dict[str, tuple[str, ...]] = field(default_factory=dict)
+    lifetime: Lifetime | None = None
 
     def targets(self, relation: str) -> tuple[str, ...]:
         """The ids of a relation, each once; empty where it is absent."""
@@ -185,6 +198,18 @@ def _read_labels(element: Element, value: Any) -> None:
     element.labels = Labels(value["labeltype"], ranges)
 
 
+def _read_lifetime(element: Element, value: Any) -> None:
+    if value is None:
+        return
+    if not isinstance(value, dict):
+        raise _shape(element.file, element.number, 15)
+    start, end = (value.get(name) for name in ("start", "end"))
+    start = 0 if start is None else start
+    if not _is_whole(start, TIME_LIMIT) or not (end is None or _is_whole(end, TIME_LIMIT) and start < end):
+        raise _shape(element.file, element.number, 15)
+    element.lifetime = Lifetime(start, end)
+
+
 _READERS = {
     "encoding": _read_encoding,
     "labelSwapping": _read_swapping,
@@ -192,6 +217,7 @@ _READERS = {
     "cost": _read_cost,
     "hasLabel": _read_label,
     "hasLabelGroup": _read_labels,
+    LIFETIME: _read_lifetime,
 }
 
 
@@ -369,6 +395,8 @@ def _tree_of(element: Element) -> dict[str, Any]:
     for name, targets in element.relations.items():
         if targets or element.type == "SwitchingService":
             tree[name] = list(targets)
+    if element.lifetime is not None:
+        tree[LIFETIME] = element.lifetime.tree()
     return tree
 
 

@@ -195,6 +195,8 @@ class Topologies(unittest.TestCase):
             ([one('{"type":"Link","id":"l","cost":18446744073709551616}')], "fault 1 1 shape 12"),
             ([one(port % ',"hasLabel":{"labeltype":"v","value":4294967296}')], "fault 1 1 shape 13"),
             ([one('{"type":"PortGroup","id":"p","hasLabelGroup":{"labeltype":"v"}}')], "fault 1 1 shape 14"),
+            ([one('{"type":"Link","id":"l","existsDuring":{"start":9,"end":9}}')], "fault 1 1 shape 15"),
+            ([one('{"type":"Node","id":"n","existsDuring":{"start":1.5}}')], "fault 1 1 shape 15"),
             ([one('{"type":"PortGroup","id":"p","hasLabelGroup":{"labeltype":"v","values":"5-3"}}')], "fault 1 1 label 1"),
             ([topology("d"), topology("d")], "fault 2 0 duplicate-topology d 1"),
             ([topology("d", "P a"), topology("e", "P b", "L a")], "fault 2 2 duplicate-id a 1 1"),

@@ -268,6 +268,8 @@ FAULTS = [
      "fault 1 1 shape 13"),
     ([b'{"format":1,"topology":"d","elements":[{"type":"PortGroup","id":"a","hasLabelGroup":{"labeltype":"v"}}]}'],
      "fault 1 1 shape 14"),
+    ([b'{"format":1,"topology":"d","elements":[{"type":"Link","id":"l","existsDuring":{"start":9,"end":9}}]}'], "fault 1 1 shape 15"),
+    ([b'{"format":1,"topology":"d","elements":[{"type":"Node","id":"n","existsDuring":[1,2]}]}'], "fault 1 1 shape 15"),
     ([topology("d", "PG p labels=v:")], "fault 1 1 label 0"),
     ([topology("d", "PG p labels=v:5-3")], "fault 1 1 label 1"),
     ([topology("d", "PG p labels=v:100,")], "fault 1 1 label 3"),

@@ -13,17 +13,17 @@ use Rattle.nml_elements.specs.ElementWriting.{object_of, number_part}
 use Rattle.nml_elements.specs.FileWriting.{AreCounted, AreKept, entries_data, domain_parts, domain_data}
 use Rattle.nml_elements.proofs.Json.{json_of-text}
 use Rattle.nml_elements.proofs.MemberWriting.{id_written, optional_id_written}
-use Rattle.nml_elements.proofs.Parts.{part_is}
-use Rattle.nml_elements.proofs.ReadBack.{element_read, is_object}
+use Rattle.nml_elements.proofs.Parts.{is_object, part_is}
+use Rattle.nml_elements.proofs.ReadBack.{entry_read}
 
-numbered : (n : ℕ) (entry : Entry) → entry.number ≡ n → record { number = n; element = entry.element } ≡ entry
-numbered n entry e = ap (λ m. record { number = m; element = entry.element }) (sym e)
+numbered : (n : ℕ) (entry : Entry) → entry.number ≡ n → record { number = n; element = entry.element; lifetime = entry.lifetime } ≡ entry
+numbered n entry e = ap (λ m. record { number = m; element = entry.element; lifetime = entry.lifetime }) (sym e)
 
 entries_read : (n : ℕ) (entries : List Entry) → AreCounted n entries → AreKept entries → entries_at n (entries_data entries) ≡ Ok entries
 unfolding entries_at
 entries_read n [] counted kept = refl
 entries_read n (entry ∷ rest) counted kept =
-    rw (element_read entry.element kept.0, entries_read (n + 1) rest counted.1 kept.1) (ap (λ e. Ok (e ∷ rest)) (numbered n entry counted.0))
+    rw (entry_read entry kept.0, entries_read (n + 1) rest counted.1 kept.1) (ap (λ e. Ok (e ∷ rest)) (numbered n entry counted.0))
 
 entries_len : (entries : List Entry) → items_len (entries_data entries) ≡ length entries
 entries_len [] = refl

@@ -7,8 +7,8 @@ use Rattle.serde_json.specs.View.{view, items_view}
 use Rattle.serde_json.specs.declared.value.Value.{Value}
 use Rattle.ml_base.specs.Text.{IsIdText}
 use Rattle.nml_elements.specs.declared.elements.Entry.{Entry}
-use Rattle.nml_elements.specs.Kept.{AreIds, Keeps}
-use Rattle.nml_elements.specs.ElementWriting.{texts, element_data}
+use Rattle.nml_elements.specs.Kept.{AreIds, KeepsEntry}
+use Rattle.nml_elements.specs.ElementWriting.{texts, entry_data}
 use Rattle.nml_elements.specs.FileWriting.{AreKept, entries_data}
 
 abbrev then_one : Items → Data → Items
@@ -50,22 +50,22 @@ texts_end values ids i so_far h =
 
 -- ---- entries
 
-entries_push : (entries : List Entry) (entry : Entry) → entries_data (entries ++ entry ∷ []) ≡ then_one (entries_data entries) (element_data entry.element)
+entries_push : (entries : List Entry) (entry : Entry) → entries_data (entries ++ entry ∷ []) ≡ then_one (entries_data entries) (entry_data entry)
 entries_push [] entry = refl
-entries_push (x ∷ entries) entry = ap (item (element_data x.element)) (entries_push entries entry)
+entries_push (x ∷ entries) entry = ap (item (entry_data x)) (entries_push entries entry)
 
 pub record AreEntries (values : List Value) (entries : List Entry) (i : ℕ) : Type 0 where
   pub written : items_view values ≡ entries_data (take i entries)
   pub kept : AreKept (take i entries)
 
 pub entries_more : (values : List Value) (entries : List Entry) (i : ℕ) (v : Value) (entry : Entry) → AreEntries values entries i → i < length entries → entry ≡ get_or entries i entry
-    → view v ≡ element_data entry.element → Keeps entry.element → AreEntries (values ++ v ∷ []) entries (i + 1)
+    → view v ≡ entry_data entry → KeepsEntry entry → AreEntries (values ++ v ∷ []) entries (i + 1)
 entries_more values entries i v entry so_far h e is here =
     let next = take_more entries i entry h ∙ ap (λ x. take i entries ++ x ∷ []) (sym e) in
     record {
       written = view_push values v ∙ ap (λ ds. then_one ds (view v)) so_far.written ∙ ap (then_one (entries_data (take i entries))) is
           ∙ sym (entries_push (take i entries) entry) ∙ ap entries_data (sym next);
-      kept = subst AreKept (sym next) (all_push (λ (x : Entry). Keeps x.element) (take i entries) entry so_far.kept here);
+      kept = subst AreKept (sym next) (all_push KeepsEntry (take i entries) entry so_far.kept here);
     }
 
 pub entries_end : (values : List Value) (entries : List Entry) (i : ℕ) → AreEntries values entries i → length entries ≤ i → (items_view values ≡ entries_data entries) × AreKept entries

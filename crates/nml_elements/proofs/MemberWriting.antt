@@ -76,7 +76,7 @@ swapping_written ps b here = ap swapping_from (part_is (codes "labelSwapping") p
 abbrev object_parts : Bool → List ℕ → List (ℕ × ℕ) → List Part
 object_parts group labeltype set = (codes "labeltype", text_part labeltype) ∷ set_part group set ∷ []
 
-present_object : (ps : List Part) → present (Some (object_of ps)) ≡ Some (object_of ps)
+pub present_object : (ps : List Part) → present (Some (object_of ps)) ≡ Some (object_of ps)
 unfolding object_of
 present_object ps = refl
 

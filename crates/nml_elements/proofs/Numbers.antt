@@ -6,7 +6,7 @@ use Rattle.serde_json.specs.Events.{items_len}
 use Rattle.nml_elements.specs.declared.fault.MemberFault.{MemberFault}
 use Rattle.nml_elements.specs.declared.fault.MemberFault.TheVariants.{Rule}
 use Rattle.nml_elements.specs.declared.fault.ReadFault.{ReadFault}
-use Rattle.nml_elements.specs.declared.elements.Element.{Element}
+use Rattle.nml_elements.specs.declared.living.Living.{Living}
 use Rattle.nml_elements.specs.declared.elements.Entry.{Entry}
 use Rattle.nml_elements.specs.Gives.{◌>>=◌}
 use Rattle.nml_elements.specs.ElementReading.{element_at}
@@ -20,11 +20,11 @@ later : (n m : ℕ) (entries : List Entry) → n ≤ m → AreNumbered m entries
 later n m [] le up = tt
 later n m (e ∷ rest) le up = (omega (arith, up.0), up.1, up.2)
 
-with_one : (n most : ℕ) (found : Option Element) (entries : List Entry) → n ≤ 16777216 → AreWithin (n + 1) most entries → AreWithin n (suc most) (with_entry n found entries)
+with_one : (n most : ℕ) (found : Option Living) (entries : List Entry) → n ≤ 16777216 → AreWithin (n + 1) most entries → AreWithin n (suc most) (with_entry n found entries)
 with_one n most None entries le up = (later n (n + 1) entries (omega arith) up.0, omega (arith, up.1))
-with_one n most (Some element) entries le up = ((omega arith, le, up.0), omega (arith, up.1))
+with_one n most (Some living) entries le up = ((omega arith, le, up.0), omega (arith, up.1))
 
-within_by : (n most : ℕ) (found : Result (Option Element) ReadFault) (read : Result (List Entry) ReadFault) (entries : List Entry) → n ≤ 16777216
+within_by : (n most : ℕ) (found : Result (Option Living) ReadFault) (read : Result (List Entry) ReadFault) (entries : List Entry) → n ≤ 16777216
     → ((rest : List Entry) → read ≡ Ok rest → AreWithin (n + 1) most rest)
     → (found >>= λ element. read >>= λ rest. Ok (with_entry n element rest)) ≡ Ok entries → AreWithin n (suc most) entries
 within_by n most (Err e) read entries le up is = cc

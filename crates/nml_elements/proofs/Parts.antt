@@ -1,10 +1,10 @@
 -- What is written under a name is found there.
-use Rattle.std.proofs.Common.{◌≡◌, ℕ, List, [], ◌∷◌, Bool, true, false, cond, Option, Some, None, refl, sym, ap, ◌∙◌, subst, bytes_eq}
+use Rattle.std.proofs.Common.{◌≡◌, ℕ, List, [], ◌∷◌, Bool, true, false, cond, Option, Some, None, is_some, refl, sym, ap, ◌∙◌, subst, bytes_eq}
 use Rattle.std.proofs.lemmas.Slice.Eq.{bytes_eq-Decides}
 use Rattle.std.proofs.lemmas.Bool.{false≢true}
 use Rattle.serde_json.proofs.Views.{get_member-put, get_member-put_other}
 use Rattle.serde_json.specs.Data.{Data, Members, no_members, put}
-use Rattle.serde_json.specs.Find.{get_member}
+use Rattle.serde_json.specs.Find.{as_object, get_member}
 use Rattle.nml_elements.specs.MemberReading.{present, part}
 use Rattle.nml_elements.specs.ElementWriting.{Part, with_part, with_parts, object_of}
 
@@ -53,3 +53,7 @@ part_written key ps = ap present (get_parts key no_members ps ∙ alone (looked_
 
 pub part_is : (key : List ℕ) (ps : List Part) (o : Option Data) → looked_up key ps ≡ o → part key (object_of ps) ≡ present o
 part_is key ps o is = part_written key ps ∙ ap present is
+
+pub is_object : (ps : List Part) → is_some (as_object (object_of ps)) ≡ true
+unfolding object_of
+is_object ps = refl

@@ -12,7 +12,8 @@ use Rattle.nml_elements.specs.declared.elements.Entry.{Entry}
 use Rattle.nml_elements.specs.declared.elements.Domain.{Domain}
 use Rattle.nml_elements.specs.declared.elements.Element.{Element}
 use Rattle.nml_elements.specs.declared.elements.Element.TheVariants as elements
-use Rattle.nml_elements.specs.ElementWriting.{Part, with_part, with_parts, object_of, text_part, optional_text_part, number_part, swapping_part, texts, relation_part, optional_relation_part, labels_part, first_label, set_part, element_parts, element_data}
+use Rattle.nml_elements.specs.Lifetimes.{Lifespan}
+use Rattle.nml_elements.specs.ElementWriting.{Part, with_part, with_parts, object_of, text_part, optional_text_part, number_part, swapping_part, texts, relation_part, optional_relation_part, labels_part, first_label, set_part, element_parts, optional_number_part, lifespan_parts, lifetime_part, entry_parts, entry_data}
 use Rattle.nml_elements.specs.FileWriting.{entries_data, domain_parts, domain_data}
 
 -- nests at most so deep, without a float
@@ -114,16 +115,24 @@ element_parts_plain (elements.Adaptation e) = (text_plain 1 e.function, (number_
 element_parts_plain (elements.Deadaptation e) = (text_plain 1 e.function, (number_plain 1 e.cost, (text_plain 1 e.id, (relation_plain e.ports, ((omega arith, refl), tt)))))
 element_parts_plain (elements.Conversion e) = (number_plain 1 e.cost, (relation_plain e.inbound, (relation_plain e.outbound, (text_plain 1 e.id, ((omega arith, refl), tt)))))
 
-element_plain : (element : Element) → IsPlain 2 (element_data element)
-unfolding element_data
-element_plain element = object_plain 1 (element_parts element) (element_parts_plain element)
+optional_number_plain : (n : ℕ) (o : Option ℕ) → MayBePlain n (optional_number_part o)
+optional_number_plain n None = tt
+optional_number_plain n (Some m) = number_plain n m
+
+lifetime_plain : (lifetime : Option Lifespan) → MayBePlain 1 (lifetime_part lifetime)
+lifetime_plain None = tt
+lifetime_plain (Some life) = object_plain 0 (lifespan_parts life) (optional_number_plain 0 life.end, (number_plain 0 life.start, tt))
+
+entry_plain : (entry : Entry) → IsPlain 2 (entry_data entry)
+unfolding entry_data
+entry_plain entry = object_plain 1 (entry_parts entry) (lifetime_plain entry.lifetime, element_parts_plain entry.element)
 
 entries_plain : (entries : List Entry) → ArePlainItems 2 (entries_data entries)
 entries_plain [] = (omega arith, refl)
 entries_plain (entry ∷ rest) =
-    let here = element_plain entry.element in
+    let here = entry_plain entry in
     let later = entries_plain rest in
-    (omega (arith, here.0, later.0), or_from (has_float (element_data entry.element)) (items_have_float (entries_data rest)) here.1 later.1)
+    (omega (arith, here.0, later.0), or_from (has_float (entry_data entry)) (items_have_float (entries_data rest)) here.1 later.1)
 
 pub domain_plain : (domain : Domain) → IsPlain 4 (domain_data domain)
 unfolding domain_data

@@ -12,12 +12,14 @@ use Rattle.nml_elements.specs.declared.elements.AdaptE.{AdaptE}
 use Rattle.nml_elements.specs.declared.elements.ConvE.{ConvE}
 use Rattle.nml_elements.specs.declared.elements.Element.{Element}
 use Rattle.nml_elements.specs.declared.elements.Element.TheVariants as elements
+use Rattle.nml_elements.specs.declared.living.Living.{Living}
 use Rattle.nml_elements.specs.declared.kind.Kind.{Kind}
 use Rattle.nml_elements.specs.declared.kind.Kind.TheVariants as kinds
 use Rattle.nml_elements.specs.Gives.{◌>>=◌}
 use Rattle.nml_elements.specs.Kind.{kind_of}
 use Rattle.nml_elements.specs.MemberReading.{part, required_id, optional_id, relation, optional_relation, cost_at, swapping_at}
 use Rattle.nml_elements.specs.LabelReading.{labels_at}
+use Rattle.nml_elements.specs.LifetimeReading.{lifetime_at}
 
 abbrev pub element_id : Data → Result (List ℕ) MemberFault
 element_id d = required_id 8 (codes "id") d
@@ -104,16 +106,23 @@ kind_at kinds.Conversion d = do
   e ← conv_at d
   Ok (elements.Conversion e)
 
+-- the element, and then its lifetime
+unfoldable pub living_at : Kind → Data → Result Living MemberFault
+living_at kind d = do
+  e ← kind_at kind d
+  lifetime ← lifetime_at d
+  Ok (record { element = e; lifetime = lifetime })
+
 -- an element of another type is not read
-abbrev pub known_at : Option Kind → Data → Result (Option Element) MemberFault
+abbrev pub known_at : Option Kind → Data → Result (Option Living) MemberFault
 known_at None d = Ok None
 known_at (Some kind) d = do
-  e ← kind_at kind d
-  Ok (Some e)
+  living ← living_at kind d
+  Ok (Some living)
 
-abbrev pub typed_at : Option (List ℕ) → Data → Result (Option Element) MemberFault
+abbrev pub typed_at : Option (List ℕ) → Data → Result (Option Living) MemberFault
 typed_at None d = Err (Rule 7)
 typed_at (Some s) d = known_at (kind_of s) d
 
-unfoldable pub element_at : Data → Result (Option Element) MemberFault
+unfoldable pub element_at : Data → Result (Option Living) MemberFault
 element_at d = if is_some (as_object d) then typed_at (option_and_then as_str (part (codes "type") d)) d else Err (Rule 6)

@@ -1,4 +1,4 @@
--- The JSON value that is written of an element.
+-- The JSON value that is written of an element and its lifetime.
 use Rattle.std.specs.Prelude.{ℕ, List, [], ◌∷◌, Bool, true, false, codes, Option, Some, None}
 use Rattle.serde_json.specs.Data.{Data, boolean, number, string, array, object, unsigned, Items, no_items, item, Members, no_members, put}
 use Rattle.label_sets.specs.GroupText.{written}
@@ -12,6 +12,8 @@ use Rattle.nml_elements.specs.declared.elements.AdaptE.{AdaptE}
 use Rattle.nml_elements.specs.declared.elements.ConvE.{ConvE}
 use Rattle.nml_elements.specs.declared.elements.Element.{Element}
 use Rattle.nml_elements.specs.declared.elements.Element.TheVariants as elements
+use Rattle.nml_elements.specs.declared.elements.Entry.{Entry}
+use Rattle.nml_elements.specs.Lifetimes.{Lifespan}
 
 -- ---- objects of named parts, each there or not
 
@@ -157,5 +159,26 @@ element_parts (elements.Adaptation adapt) = adapt_parts (codes "AdaptationServic
 element_parts (elements.Deadaptation adapt) = adapt_parts (codes "DeadaptationService") adapt
 element_parts (elements.Conversion conv) = conv_parts conv
 
-unfoldable pub element_data : Element → Data
-element_data element = object_of (element_parts element)
+-- ---- lifetimes
+
+abbrev pub optional_number_part : Option ℕ → Option Data
+optional_number_part None = None
+optional_number_part (Some n) = number_part n
+
+abbrev pub lifespan_parts : Lifespan → List Part
+lifespan_parts life =
+    (codes "end", optional_number_part life.end)
+    ∷ (codes "start", number_part life.start)
+    ∷ []
+
+abbrev pub lifetime_part : Option Lifespan → Option Data
+lifetime_part None = None
+lifetime_part (Some life) = Some (object_of (lifespan_parts life))
+
+-- ---- entries
+
+abbrev pub entry_parts : Entry → List Part
+entry_parts entry = (codes "existsDuring", lifetime_part entry.lifetime) ∷ element_parts entry.element
+
+unfoldable pub entry_data : Entry → Data
+entry_data entry = object_of (entry_parts entry)

@@ -9,7 +9,7 @@ use Rattle.nml_elements.specs.declared.fault.MemberFault.{MemberFault}
 use Rattle.nml_elements.specs.declared.fault.MemberFault.TheVariants as members
 use Rattle.nml_elements.specs.declared.fault.ReadFault.{ReadFault}
 use Rattle.nml_elements.specs.declared.fault.ReadFault.TheVariants.{Json, Shape, Label, NoMemory}
-use Rattle.nml_elements.specs.declared.elements.Element.{Element}
+use Rattle.nml_elements.specs.declared.living.Living.{Living}
 use Rattle.nml_elements.specs.declared.elements.Entry.{Entry}
 use Rattle.nml_elements.specs.declared.elements.Domain.{Domain}
 use Rattle.nml_elements.specs.Gives.{◌>>=◌}
@@ -39,9 +39,9 @@ at_element n (Err fault) = Err (located n fault)
 
 -- ---- the elements
 
-abbrev pub with_entry : ℕ → Option Element → List Entry → List Entry
+abbrev pub with_entry : ℕ → Option Living → List Entry → List Entry
 with_entry n None entries = entries
-with_entry n (Some element) entries = record { number = n; element = element } ∷ entries
+with_entry n (Some living) entries = record { number = n; element = living.element; lifetime = living.lifetime } ∷ entries
 
 -- the elements of an array whose first has the number n
 unfoldable pub entries_at : ℕ → Items → Result (List Entry) ReadFault

@@ -4,12 +4,12 @@ use Rattle.std.specs.List.{AllByRecursion}
 use Rattle.serde_json.specs.Data.{Data, array, Items, no_items, item}
 use Rattle.nml_elements.specs.declared.elements.Entry.{Entry}
 use Rattle.nml_elements.specs.declared.elements.Domain.{Domain}
-use Rattle.nml_elements.specs.Kept.{Keeps}
-use Rattle.nml_elements.specs.ElementWriting.{Part, object_of, text_part, optional_text_part, number_part, element_data}
+use Rattle.nml_elements.specs.Kept.{KeepsEntry}
+use Rattle.nml_elements.specs.ElementWriting.{Part, object_of, text_part, optional_text_part, number_part, entry_data}
 
 abbrev pub entries_data : List Entry → Items
 entries_data [] = no_items
-entries_data (entry ∷ rest) = item (element_data entry.element) (entries_data rest)
+entries_data (entry ∷ rest) = item (entry_data entry) (entries_data rest)
 
 abbrev pub domain_parts : Domain → List Part
 domain_parts domain =
@@ -28,4 +28,4 @@ AreCounted n [] = Unit {0}
 AreCounted n (entry ∷ rest) = (entry.number ≡ n) × AreCounted (n + 1) rest
 
 abbrev pub AreKept : List Entry → Type 0
-AreKept entries = AllByRecursion (λ (entry : Entry). Keeps entry.element) entries
+AreKept entries = AllByRecursion KeepsEntry entries

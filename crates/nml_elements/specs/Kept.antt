@@ -1,4 +1,4 @@
--- What the parts of every element keep: texts are those of ids, and sets are ranges that rise.
+-- What the parts of every element keep: texts are those of ids, sets are ranges that rise, and lifetimes end after they start.
 use Rattle.std.specs.Prelude.{ℕ, List, Option, None, Some}
 use Rattle.std.specs.List.{AllByRecursion}
 use Rattle.ml_base.specs.Text.{IsIdText}
@@ -13,6 +13,8 @@ use Rattle.nml_elements.specs.declared.elements.AdaptE.{AdaptE}
 use Rattle.nml_elements.specs.declared.elements.ConvE.{ConvE}
 use Rattle.nml_elements.specs.declared.elements.Element.{Element}
 use Rattle.nml_elements.specs.declared.elements.Element.TheVariants as elements
+use Rattle.nml_elements.specs.declared.elements.Entry.{Entry}
+use Rattle.nml_elements.specs.Lifetimes.{Lifespan, IsLifespan}
 
 abbrev pub AreIds : List (List ℕ) → Type 0
 AreIds ids = AllByRecursion IsIdText ids
@@ -73,3 +75,11 @@ Keeps (elements.Switching switch) = KeepsSwitch switch
 Keeps (elements.Adaptation adapt) = KeepsAdapt adapt
 Keeps (elements.Deadaptation adapt) = KeepsAdapt adapt
 Keeps (elements.Conversion conv) = KeepsConv conv
+
+abbrev pub MayBeLifespan : Option Lifespan → Type 0
+MayBeLifespan None = Unit {0}
+MayBeLifespan (Some life) = IsLifespan life
+
+pub record KeepsEntry (entry : Entry) : Type 0 where
+  pub element : Keeps entry.element
+  pub lifetime : MayBeLifespan entry.lifetime

@@ -2,10 +2,13 @@ pub mod Gives
 pub mod IdTest
 pub mod Kind
 pub mod Labels
+pub mod Lifetimes
 pub mod MemberReading
 pub mod LabelReading
+pub mod LifetimeReading
 pub mod ElementReading
 pub mod FileReading
 pub mod Kept
 pub mod ElementWriting
 pub mod FileWriting
+pub mod During

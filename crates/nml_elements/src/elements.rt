@@ -1,6 +1,7 @@
 ghost use Rattle.std.specs.Prelude.{IsTrue};
 ghost use Rattle.nml_elements.specs.Labels.{fits_group};
 
+use crate::lifetimes::Lifetime;
 use label_sets::LabelSet;
 use ml_base::{Id, Items};
 
@@ -95,11 +96,12 @@ pub enum Element {
     Conversion(ConvE),
 }
 
-/// An element with its place in the file, from 1.
+/// An element with its place in the file, from 1, and how long it exists; without a lifetime it always does.
 #[derive(Debug, Drop)]
 pub struct Entry {
     pub number: u64,
     pub element: Element,
+    pub lifetime: Option<Lifetime>,
 }
 
 /// What is read of a file. `encoding` is the one of ports that state none.

@@ -7,8 +7,9 @@ ghost use Rattle.nml_elements.specs.FileReading.{AreNumbered, Reads, Misses, loc
 
 use crate::element_reading::element_of;
 use crate::fault::MemberFault;
+use crate::living::Living;
 use crate::member_reading::{optional_id_of, part, required_id_of};
-use crate::{Domain, Element, ElementList, Entry, ReadFault};
+use crate::{Domain, ElementList, Entry, ReadFault};
 use ml_base::{Id, NoMemory};
 use serde_json::Value;
 use std::alloc::Global;
@@ -38,21 +39,25 @@ fn at_element<T>(number: u64, read: Result<T, MemberFault>) -> Result<T, ReadFau
     }
 }
 
-fn numbered_element_of(
+fn located_element_of(
     alloc: Global,
     number: u64,
     value: &Value,
-) -> Result<Option<Element>, ReadFault>
+) -> Result<Option<Living>, ReadFault>
     ensures { Reads result (at_element number (element_at (view value.now))) }
 {
     at_element(number, element_of(alloc, value))
 }
 
-fn add(entries: &mut ElementList, number: u64, found: Option<Element>) -> Result<(), NoMemory>
+fn add(entries: &mut ElementList, number: u64, found: Option<Living>) -> Result<(), NoMemory>
     ensures { OnOk result (entries.new ≡ entries.old ++ with_entry number found []) }
 {
     match found {
-        Some(element) => entries.push(Entry { number, element }),
+        Some(living) => entries.push(Entry {
+            number,
+            element: living.element,
+            lifetime: living.lifetime,
+        }),
         None => Ok(()),
     }
 }
@@ -64,7 +69,7 @@ fn entries_of(alloc: Global, values: &[Value]) -> Result<ElementList, ReadFault>
     let mut number = 0;
     for value in values {
         number += 1;
-        let found = numbered_element_of(alloc, number, value)?;
+        let found = located_element_of(alloc, number, value)?;
         add(&mut entries, number, found)?;
     }
     Ok(entries)

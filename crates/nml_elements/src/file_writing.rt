@@ -7,7 +7,7 @@ ghost use Rattle.nml_elements.specs.Kept.{MayBeId};
 ghost use Rattle.nml_elements.specs.FileReading.{domain_of};
 ghost use Rattle.nml_elements.specs.FileWriting.{AreCounted, AreKept, entries_data, domain_data};
 
-use crate::element_writing::element_value;
+use crate::element_writing::entry_value;
 use crate::member_writing::{push_value, put_id, put_number, put_optional_id, put_value};
 use crate::{Domain, Entry};
 use ml_base::NoMemory;
@@ -20,7 +20,7 @@ fn entry_values(alloc: Global, entries: &[Entry]) -> Result<Vec<Value>, NoMemory
 {
     let mut values = Vec::new(alloc);
     for entry in entries {
-        let value = element_value(alloc, &entry.element)?;
+        let value = entry_value(alloc, entry)?;
         push_value(&mut values, value)?;
     }
     Ok(values)

@@ -12,8 +12,14 @@ mod kind;
 mod label_reading;
 mod label_writing;
 mod laws;
+mod lifetime_reading;
+mod lifetime_writing;
+mod lifetimes;
+mod living;
 mod member_reading;
 mod member_writing;
+mod sharing;
+mod windows;
 
 pub use elements::{
     AdaptE, ConvE, Domain, DomainList, Element, ElementList, Entry, IdList, Labels, LinkE, NodeE,
@@ -22,7 +28,9 @@ pub use elements::{
 pub use fault::ReadFault;
 pub use file_reading::read_domain;
 pub use file_writing::write_domain;
-pub use laws::ids_are_decided;
+pub use laws::{existing_is_decided, ids_are_decided};
+pub use lifetimes::{Lifetime, Window, exists_throughout};
+pub use windows::during;
 
 #[cfg(test)]
 mod tests;

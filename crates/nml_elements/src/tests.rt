@@ -1,4 +1,4 @@
-use crate::{Element, Labels, ReadFault, read_domain, write_domain};
+use crate::{Element, Labels, Lifetime, ReadFault, Window, during, read_domain, write_domain};
 use std::test::Fail;
 
 #[test]
@@ -169,6 +169,88 @@ fn what_is_written_is_what_was_read(rt: HostRuntime) -> Result<(), Fail> {
         let domain = read_domain(rt.alloc(), text.as_bytes())?;
         let bytes = write_domain(rt.alloc(), &domain)?;
         assert_eq!(rt; bytes.as_slice(), text.as_bytes());
+    }
+    Ok(())
+}
+
+#[test]
+fn lifetimes_that_are_none(rt: HostRuntime) -> Result<(), Fail> {
+    let rows = [
+        "7",
+        "true",
+        "[1,2]",
+        r#"{"start":"1"}"#,
+        r#"{"start":-1}"#,
+        r#"{"start":1.5}"#,
+        r#"{"start":18446744073709551616}"#,
+        r#"{"end":"9"}"#,
+        r#"{"end":0}"#,
+        r#"{"start":9,"end":9}"#,
+        r#"{"start":9,"end":8}"#,
+    ];
+    for row in rows {
+        let text = format!(in rt.alloc();
+            r#"{{"format":1,"topology":"d","elements":[{{"type":"Link","id":"l","existsDuring":{row}}}]}}"#
+        )?;
+        match read_domain(rt.alloc(), text.as_bytes()) {
+            Ok(_) => assert!(rt; false, "taken: {row}"),
+            Err(fault) => assert_eq!(rt;
+                fault,
+                ReadFault::Shape {
+                    element: 1,
+                    rule: 15
+                },
+                "of {row}"
+            ),
+        }
+    }
+    Ok(())
+}
+
+#[test]
+fn lifetimes_that_are_read(rt: HostRuntime) -> Result<(), Fail> {
+    let rows = [
+        ("null", None),
+        ("{}", Lifetime::new(0, None)),
+        (r#"{"start":null,"end":7}"#, Lifetime::new(0, Some(7))),
+        (r#"{"start":3}"#, Lifetime::new(3, None)),
+        (
+            r#"{"start":18446744073709551614,"end":18446744073709551615}"#,
+            Lifetime::new(18446744073709551614, Some(18446744073709551615)),
+        ),
+    ];
+    for (row, want) in rows {
+        let text = format!(in rt.alloc();
+            r#"{{"format":1,"topology":"d","elements":[{{"type":"Link","id":"l","existsDuring":{row}}}]}}"#
+        )?;
+        let domain = read_domain(rt.alloc(), text.as_bytes())?;
+        match domain.elements.get(0) {
+            Some(entry) => assert!(rt; entry.lifetime == want, "of {row}"),
+            None => assert!(rt; false, "no entry"),
+        }
+    }
+    Ok(())
+}
+
+#[test]
+fn what_is_there_throughout_a_window(rt: HostRuntime) -> Result<(), Fail> {
+    let text =
+        r#"{"elements":[{"id":"a","isSource":["l1","l2"],"type":"Port"},{"id":"b","isSink":["l1","l2"],"type":"Port"},{"cost":1,"existsDuring":{"end":200,"start":100},"id":"l1","type":"Link"},{"cost":5,"id":"l2","type":"Link"}],"format":1,"topology":"d"}"#;
+    let life = read_domain(rt.alloc(), text.as_bytes())?;
+    let written = write_domain(rt.alloc(), &life)?;
+    assert_eq!(rt; written.as_slice(), text.as_bytes());
+    let rows = [(100, 201, 3, 4), (99, 200, 3, 4), (100, 200, 4, 3)];
+    for (from, to, count, third) in rows {
+        let Some(window) = Window::new(from, to) else {
+            assert!(rt; false, "no window");
+            return Ok(());
+        };
+        let there = during(rt.alloc(), &life, &window)?;
+        assert_eq!(rt; there.elements.len(), count);
+        match there.elements.get(2) {
+            Some(entry) => assert_eq!(rt; entry.number, third),
+            None => assert!(rt; false, "no third entry"),
+        }
     }
     Ok(())
 }

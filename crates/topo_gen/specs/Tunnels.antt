@@ -34,10 +34,10 @@ adaptation id function client = element.Adaptation (record { id = id; function =
 abbrev pub deadaptation : Name → Name → Name → Element
 deadaptation id function client = element.Deadaptation (record { id = id; function = function; cost = 1; ports = client ∷ [] })
 
--- the elements as entries, numbered from a number on
+-- the elements as entries without a lifetime, numbered from a number on
 abbrev pub entries_from : ℕ → List Element → List Entry
 entries_from n [] = []
-entries_from n (e ∷ es) = record { number = n; element = e } ∷ entries_from (n + 1) es
+entries_from n (e ∷ es) = record { number = n; element = e; lifetime = None } ∷ entries_from (n + 1) es
 
 -- the domain of a level, without an encoding, whose entries are numbered from 1
 abbrev pub domain_of : ℕ → List Element → Domain

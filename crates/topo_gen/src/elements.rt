@@ -95,7 +95,7 @@ pub fn deadaptation(
     Ok(Element::Deadaptation(service(alloc, level, letter, function, client)?))
 }
 
-/// The elements as entries, numbered from 1.
+/// The elements as entries without a lifetime, numbered from 1.
 fn numbered(alloc: Global, elements: Vec<Element>) -> Result<ElementList, NoMemory>
     requires { length elements.items < 2 ^ 32 }
     ensures { IfOk result (λ entries. entries ≡ entries_from 1 elements.items) }
@@ -103,7 +103,11 @@ fn numbered(alloc: Global, elements: Vec<Element>) -> Result<ElementList, NoMemo
     let mut entries = Items::new(alloc);
     for element in elements {
         let number = entries.len() + 1;
-        entries.push(Entry { number, element })?;
+        entries.push(Entry {
+            number,
+            element,
+            lifetime: None,
+        })?;
     }
     Ok(entries)
 }

@@ -1,4 +1,4 @@
-use Rattle.std.proofs.Common.{◌≡◌, ◌+◌, ◌∷◌, ◌++◌, [], ◌∙◌, ap, sym, arith, length, length-append}
+use Rattle.std.proofs.Common.{◌≡◌, ◌+◌, ◌∷◌, ◌++◌, [], None, ◌∙◌, ap, sym, arith, length, length-append}
 use Rattle.topo_gen.proofs.Entries.{entries_from-more, length-entries_from}
 use Rattle.topo_gen.proofs.elements.numbered.Goals as goal
 
@@ -15,6 +15,6 @@ loop-element-preserved c =
     let step : c.loop-element.element-iterator.rest.items ≡ c.in-Some.element ∷ c.next.new.self.rest.items = c.in-Some.ensures.steps.0 in
     let more = entries_from-more 1 (c.len-number.result + 1) c.loop-element.yielded c.in-Some.element (omega (arith, counted, c.len-number.ensures)) in
     record {
-      so_far = c.in_ok-push.ensures.ok ∙ ap (λ entries. entries ++ record { number = c.len-number.result + 1; element = c.in-Some.element } ∷ []) c.loop-element.invariant.so_far ∙ sym more;
+      so_far = c.in_ok-push.ensures.ok ∙ ap (λ entries. entries ++ record { number = c.len-number.result + 1; element = c.in-Some.element; lifetime = None } ∷ []) c.loop-element.invariant.so_far ∙ sym more;
       left = omega (arith, c.loop-element.invariant.left, ap length step, length-append c.loop-element.yielded (c.in-Some.element ∷ []));
     }
