@@ -100,10 +100,8 @@ impl Machine {
         ensures refused { OnErr result (self.new ≡ self.old) }
     {
         let place = self.list.len() as u64;
-        match self.list.push(step) {
-            Ok(()) => Ok(StepNo(place)),
-            Err(_) => Err(NoMemory),
-        }
+        self.list.push(step)?;
+        Ok(StepNo(place))
     }
 
     /// Adds a step that keeps the stack, and answers its place. A refusal changes nothing.

@@ -10,7 +10,7 @@ use Rattle.circuit_spec.specs.Steps.{IsAllowed, IsWished, Ends, Joins, Run, Walk
 use Rattle.circuit_spec.specs.Flags.{AreFlags, flags_after}
 use Rattle.circuit_spec.specs.Faults.{IsKnown, IsHere, IsKnownEnd}
 use Rattle.circuit_spec.specs.Segments.{unit_in}
-use Rattle.circuit_spec.proofs.ClassLemmas.{First-unique, class_of_itself}
+use Rattle.circuit_spec.proofs.ClassLemmas.{First-unique, same_class}
 use Rattle.answer_spec.specs.Certificate.{first_label, AreCarried, AreFlagged}
 use Rattle.answer_spec.specs.Arriving.{start_of, EndAllowed}
 
@@ -38,12 +38,6 @@ walk_flagged T r (h ∷ hops) flags ends run are =
     (ends.from, ends.from_allowed.place.is_class, subst P same are)
 
 -- Hops that begin at the first place of a known request and end at an allowed place of TO with the empty stack are a walk.
-
--- the class that a class names is itself
-same_class : (T : Topology) (port other : Name) (x y : Port) → IsClass T port x → IsClass T other y → x.id ≡ y.id → x ≡ y
-same_class T port other x y first second same =
-    let own = subst (λ n. IsClass T n x) same (class_of_itself T port x first) in
-    First-unique (λ q. Linked T y.id q.id) (ports T) x y own (class_of_itself T other y second)
 
 begins_allowed : (T : Topology) (port : Name) (wish : Wish) (class : Port) (h : Hop) (hops : List Hop) (end : DataUnit) → IsKnownEnd T port wish → IsClass T port class
     → Run T (unit_at class (first_label wish (h ∷ hops)) []) (h ∷ hops) end → IsAllowed T port wish class (first_label wish (h ∷ hops))

@@ -1,5 +1,5 @@
 -- A request has one list of potentials: strictly rising lists of the same items are one.
-use Rattle.std.proofs.Common.{◌≡◌, ◌⊎◌, ◌<◌, ℕ, zero, suc, inl, inr, List, [], ◌∷◌, length, Bool, true, ◌&&◌, ◌||◌, Option, None, Some, refl, sym, ◌∙◌, ap, subst, get_or, arith, Ordering, Less, Equal, Greater}
+use Rattle.std.proofs.Common.{◌≡◌, ◌⊎◌, inl, inr, List, [], ◌∷◌, Bool, true, ◌&&◌, ◌||◌, Option, None, Some, refl, sym, ◌∙◌, ap, subst, arith}
 use Rattle.std.specs.Ordering.{nat_cmp, is_lt}
 use Rattle.std.specs.Cmp.Lexicographic.{slice_cmp}
 use Rattle.std.specs.Str.{bytes_eq}
@@ -10,15 +10,18 @@ use Rattle.std.proofs.lemmas.List.Elements.{All-contains}
 use Rattle.std.proofs.lemmas.Slice.Eq.{bytes_eq-Decides}
 use Rattle.ml_base.specs.declared.weight.Weight.{Weight}
 use Rattle.ml_base.specs.Weight.{IsCappedAtMost}
+use Rattle.ml_base.proofs.Comparisons.{is_less, not_less}
 use Rattle.ml_base.proofs.Laws.{at_most-antisym}
+use Rattle.ml_base.proofs.Lists.{among_read}
 use Rattle.circuit_spec.specs.declared.hops.PlaceName.{PlaceName}
 use Rattle.circuit_spec.specs.declared.hops.Request.{Request}
 use Rattle.circuit_spec.specs.Network.{Name, Tag, Topology}
 use Rattle.circuit_spec.specs.Segments.{RootPlace, IsLeastOf}
 use Rattle.circuit_spec.proofs.Among.{IsAmong}
 use Rattle.circuit_spec.proofs.Lists.{contains_among}
+use Rattle.circuit_spec.proofs.Places.{same_places}
 use Rattle.place_names.specs.Names.{is_below, is_tag_below, is_place_below}
-use Rattle.circuit_spec.specs.Flags.{same_tag, same_place}
+use Rattle.circuit_spec.specs.Flags.{same_place}
 use Rattle.answer_spec.specs.declared.answer.PotLine.{PotLine}
 use Rattle.answer_spec.specs.declared.answer.RootName.{RootName}
 use Rattle.answer_spec.specs.declared.answer.RootName.TheVariants as root
@@ -62,14 +65,6 @@ module _ {A B : Type 0} (less same : A → A → Bool) (under : B → B → Bool
 
 -- ---- the orders of names, labels, places and pairs
 
-is_less : (o : Ordering) → is_lt o ≡ true → o ≡ Less
-is_less Less e = refl
-is_less Equal e = cc
-is_less Greater e = cc
-
-not_less : (o : Ordering) → o ≡ Equal → is_lt o ≡ true → ⊥
-not_less o e f = absurd cc
-
 names_strict : IsStrict is_below
 names_strict = record {
   never = λ a h. not_less (slice_cmp nat_cmp a a) (tied_itself nat_list_cmp_total a) h;
@@ -100,21 +95,6 @@ places_strict = record {
   never = λ a. both_never is_below bytes_eq is_tag_below names_strict same_names tags_strict a.class a.label;
   on = λ a b c. both_on is_below bytes_eq is_tag_below names_strict same_names tags_strict a.class b.class c.class a.label b.label c.label;
 }
-
-same_tags : (a b : Tag) → same_tag a b ≡ true → a ≡ b
-same_tags None None h = refl
-same_tags None (Some n) h = cc
-same_tags (Some m) None h = cc
-same_tags (Some m) (Some n) h = ap Some (grind (arith, nat_tests))
-
-place : Name → Tag → PlaceName
-place class label = record { class = class; label = label }
-
-same_places : (a b : PlaceName) → same_place a b ≡ true → a ≡ b
-unfolding place
-same_places a b h =
-    let parts = and_parts (bytes_eq a.class b.class) (same_tag a.label b.label) h in
-    ap (λ c. place c a.label) (same_names a.class b.class parts.0) ∙ ap (place b.class) (same_tags a.label b.label parts.1)
 
 abbrev is_line_below : PotLine → PotLine → Bool
 is_line_below p q = is_pot_below p.root p.place q.root q.place
@@ -171,11 +151,6 @@ same_lists before before' (x ∷ xs) (y ∷ ys) up up' to back =
 
 -- ---- potentials
 
-contained : {A : Type 0} (xs : List A) (k : ℕ) (x : A) → k < length xs → get_or xs k x ≡ x → IsAmong xs x
-contained [] k x low at = absurd (omega arith)
-contained (y ∷ ys) zero x low at = inl (sym at)
-contained (y ∷ ys) (suc k) x low at = inr (contained ys k x (omega (arith, low)) at)
-
 -- a pair has one least weight
 one_least : (T : Topology) (r : Request) (base : RootPlace) (place : PlaceName) (v w : Weight) → IsLeastOf T r base place v → IsLeastOf T r base place w → v ≡ w
 one_least T r base place v w a b =
@@ -187,7 +162,7 @@ listed_in T r xs ys pots others p among =
     let at = others.reached p.root p.place (is.hops, is.segment) in
     let also = All-contains (IsPotential T r) ys (record { root = p.root; place = p.place; weight = at.0 }) others.least at.1 in
     let here = subst (IsListed ys p.root p.place) (one_least T r (root_place p.root) p.place at.0 p.weight also is) at.1 in
-    contained ys here.0 p here.1 here.2
+    among_read ys p here.0 here.1 here.2
 
 pub one_list : (T : Topology) (r : Request) (xs ys : List PotLine) → ArePotentials T r xs → ArePotentials T r ys → xs ≡ ys
 one_list T r xs ys pots others = same_lists None None xs ys pots.in_order others.in_order (listed_in T r xs ys pots others) (listed_in T r ys xs others pots)

@@ -93,10 +93,8 @@ impl<'a> Deriv<'a> {
 fn place<'a>(arena: &'a Bump, deriv: Deriv<'a>) -> Result<&'a Deriv<'a>, NoMemory>
     ensures { IfOk result (λ d. d.now ≡ deriv.entry) }
 {
-    match arena.try_alloc(deriv) {
-        Ok(place) => Ok(place),
-        Err(_) => Err(NoMemory),
-    }
+    let place = arena.try_alloc(deriv)?;
+    Ok(place)
 }
 
 /// The derivation of no steps, at a state.

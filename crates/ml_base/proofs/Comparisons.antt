@@ -1,8 +1,10 @@
 -- Laws of tests, of what is the same and of what is less, that the kit lacks.
-use Rattle.std.proofs.Common.{◌≡◌, ◌⊎◌, ℕ, ◌+◌, ◌<◌, inl, inr, List, Bool, true, false, Ordering, Less, Equal, Greater, IsTrue, refl, ap, arith}
-use Rattle.std.specs.Ordering.{is_lt}
+use Rattle.std.proofs.Common.{◌≡◌, ◌⊎◌, ℕ, ◌+◌, ◌<◌, ◌≤◌, inl, inr, List, Bool, true, false, Ordering, Less, Equal, Greater, IsTrue, refl, ap, arith}
+use Rattle.std.specs.Ordering.{is_lt, nat_cmp}
 use Rattle.std.specs.Str.{bytes_eq}
 use Rattle.std.proofs.lemmas.Bool.{cases_lt}
+use Rattle.std.proofs.lemmas.Bool.Decides.{nat_tests}
+use Rattle.std.proofs.lemmas.Grind.{common_steps}
 use Rattle.std.proofs.lemmas.Slice.Eq.{bytes_eq-Decides}
 use Rattle.ml_base.specs.declared.numbers.StateNo.{StateNo}
 
@@ -30,6 +32,13 @@ is_less Greater e = cc
 
 pub not_less : (o : Ordering) → o ≡ Equal → is_lt o ≡ true → ⊥
 not_less o e f = absurd cc
+
+-- two numbers by their order
+pub less_at_most : (m n : ℕ) → nat_cmp m n ≡ Less → m ≤ n
+less_at_most m n e = grind (arith, common_steps)
+
+pub at_least : (m n : ℕ) → is_lt (nat_cmp n m) ≡ false → m ≤ n
+at_least m n e = grind (arith, nat_tests)
 
 -- states of one number are one
 pub same_state : (a b : StateNo) → a.0 ≡ b.0 → a ≡ b

@@ -1,9 +1,10 @@
 -- Laws of lists and options that the kit's own lemmas lack.
-use Rattle.std.proofs.Common.{◌≡◌, ◌⊎◌, ℕ, zero, suc, ◌+◌, ◌<◌, ◌&&◌, ◌||◌, inl, inr, List, [], ◌∷◌, ◌++◌, Bool, true, false, cond, Option, None, Some, Result, Ok, refl, sym, ◌∙◌, ap, subst, map, filter, length, get_or, drop, arith}
+use Rattle.std.proofs.Common.{◌≡◌, ◌⊎◌, ℕ, zero, suc, ◌+◌, ◌<◌, ◌&&◌, ◌||◌, inl, inr, List, [], ◌∷◌, ◌++◌, Bool, true, false, cond, Option, None, Some, Result, Ok, refl, sym, ◌∙◌, ap, subst, map, filter, length, get_or, drop, take, arith}
 use Rattle.std.specs.Prelude.{Contains, slice_get, option_map}
 use Rattle.std.specs.List.{AllByRecursion, list_any, filter_map, cons_option, range_with_len}
 use Rattle.std.proofs.lemmas.Bool.{or_cases, or_left, or_right}
 use Rattle.std.proofs.lemmas.List.{drop_more}
+use Rattle.std.proofs.lemmas.List.Elements.{Contains-append_cases, Contains-append_right}
 use Rattle.std.proofs.lemmas.Option.{slice_get_within, get_or_from_slice_get}
 use Rattle.ml_base.specs.Lists.{IsAmong}
 
@@ -50,6 +51,32 @@ at_end (x ∷ xs) y (suc n) e = at_end xs y n (omega (arith, e))
 -- the item that a loop over a list comes to
 pub next_item : {A : Type 0} (xs : List A) (i : ℕ) (x : A) → x ≡ get_or xs i x → i < length xs → drop i xs ≡ x ∷ drop (i + 1) xs
 next_item xs i x is lt = drop_more xs i x lt ∙ ap (λ y. y ∷ drop (i + 1) xs) (sym is)
+
+-- the first items of a list stand where they stand in it
+pub slice_get-take : {A : Type 0} (xs : List A) (j k : ℕ) → j < k → slice_get (take k xs) j ≡ slice_get xs j
+slice_get-take xs j zero lt = absurd (omega arith)
+slice_get-take [] j (suc k) lt = refl
+slice_get-take (x ∷ xs) zero (suc k) lt = refl
+slice_get-take (x ∷ xs) (suc j) (suc k) lt = slice_get-take xs j k (omega (arith, lt))
+
+-- Items that a list contains: its first one and those behind it.
+
+pub none_in : {A : Type 0} (y : A) → Contains [] y → ⊥
+none_in y c = omega (arith, c.1)
+
+pub first_in : {A : Type 0} (x : A) (xs : List A) → Contains (x ∷ xs) x
+first_in x xs = (0, omega arith, refl)
+
+pub later_in : {A : Type 0} (x : A) (xs : List A) (y : A) → Contains xs y → Contains (x ∷ xs) y
+later_in x xs y c = Contains-append_right (x ∷ []) xs y c
+
+pub cons_cases : {A : Type 0} (x : A) (xs : List A) (y : A) → Contains (x ∷ xs) y → (x ≡ y) ⊎ Contains xs y
+cons_cases x xs y c = by_part (Contains-append_cases (x ∷ []) xs y c)
+  where
+    by_part : Contains (x ∷ []) y ⊎ Contains xs y → (x ≡ y) ⊎ Contains xs y
+    by_part (inl (zero, low, e)) = inl e
+    by_part (inl (suc i, low, e)) = absurd (omega arith)
+    by_part (inr later) = inr later
 
 -- what holds of all items, by their places
 pub all_at : {A : Type 0} (P : A → Type 0) (xs : List A) (i : ℕ) (x : A) → AllByRecursion P xs → slice_get xs i ≡ Some x → P x

@@ -28,10 +28,8 @@ impl Flags {
         ensures { IfOk result (λ flags. flags ≡ replicate states None) }
     {
         let mut first = Vec::new(alloc);
-        match first.resize(states as usize, None) {
-            Ok(()) => Ok(Flags { first }),
-            Err(_) => Err(NoMemory),
-        }
+        first.resize(states as usize, None)?;
+        Ok(Flags { first })
     }
 
     /// Visits a state at a number, and answers the number of its first visit, or None exactly where this is the first. Takes constant
