@@ -54,7 +54,7 @@ at_most_or_not a b = by_cost (cases_lt a.cost b.cost)
     by_cost (inl cheaper) = inl (inl cheaper)
     by_cost (inr le) = not_less le (cases_lt b.cost a.cost)
 
-few_known : (w : FullWeight) → w.cost < 2 ^ 64 → w.hops ≤ HOP_LIMIT → cap w ≡ weight.Known w.cost w.hops
+pub few_known : (w : FullWeight) → w.cost < 2 ^ 64 → w.hops ≤ HOP_LIMIT → cap w ≡ weight.Known w.cost w.hops
 few_known w cost hops = grind (arith, common_steps)
 
 costly_past : (w : FullWeight) → 2 ^ 64 ≤ w.cost → cap w ≡ weight.Past

@@ -2,6 +2,7 @@ ghost use Rattle.std.specs.Prelude.{◌<◌, IfOk, length};
 ghost use Rattle.std.specs.List.{All};
 ghost use Rattle.ml_base.specs.declared.numbers.StepNo.{StepNo as TheStep};
 ghost use Rattle.k_cheapest.specs.KLists.{numbers_of};
+ghost use Rattle.finder_core.specs.Outcomes.{AddsHop};
 ghost use Rattle.machine_lift.specs.Lift.{AreHopsAt, IsMachineOf};
 ghost use Rattle.k_solver.specs.Walks.{AreWithin, AreWalksOf, AddsWalk};
 
@@ -12,6 +13,23 @@ use machine_build::Built;
 use ml_base::{NoMemory, StepNo};
 use nml_inventory::Inventory;
 use std::alloc::Global;
+
+/// Adds the hop of a step.
+fn add_hop(
+    inventory: &Inventory,
+    request: &Request,
+    built: &Built,
+    hops: &mut HopList,
+    step: StepNo,
+) -> Result<(), NoMemory>
+    requires built { IsMachineOf inventory.now request.now built.now }
+    requires within { step.0 < length built.now.machine.steps }
+    ensures { IfOk result (λ _. AddsHop inventory.now built.now step.0 hops.old hops.new) }
+{
+    let hop = built.hop(inventory, step)?;
+    hops.push(hop)?;
+    Ok(())
+}
 
 /// The hops of steps.
 fn hops_of(
@@ -27,8 +45,7 @@ fn hops_of(
 {
     let mut hops = HopList::new(alloc);
     for step in steps {
-        let hop = built.hop(inventory, *step)?;
-        hops.push(hop)?;
+        add_hop(inventory, request, built, &mut hops, *step)?;
     }
     Ok(hops)
 }
