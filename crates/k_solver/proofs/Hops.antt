@@ -50,9 +50,10 @@ module _ (T : Topology) (b : BuiltValue) where
       (hops_more T b (numbers_of (take i steps)) old next adds.hop are adds.is_hop))
 
   -- the next walk
-  pub walk_more : (found : List KWalk) (i : ℕ) (v : KWalk) (old new : List KHops) → i < length found → AreWalksOf T b (take i found) old → AddsWalk T b (get_or found i v) old new
+  pub walk_more : (found : List KWalk) (i : ℕ) (v : KWalk) (old new : List KHops) → v ≡ get_or found i v → i < length found → AreWalksOf T b (take i found) old → AddsWalk T b v old new
       → AreWalksOf T b (take (i + 1) found) new
-  walk_more found i v old new low are adds = subst (AreWalksOf T b (take (i + 1) found)) (sym adds.added) (zip_more (IsWalkOf T b) found i v old adds.walk low are adds.is_walk)
+  walk_more found i v old new is low are adds = subst (AreWalksOf T b (take (i + 1) found)) (sym adds.added)
+      (zip_more (IsWalkOf T b) found i v old adds.walk low are (subst (λ u. IsWalkOf T b u adds.walk) is adds.is_walk))
 
 -- as many on both sides
 pub zip_length : {A B : Type 0} (R : A → B → Type 0) (xs : List A) (ys : List B) → AllZip R xs ys → length ys ≡ length xs
