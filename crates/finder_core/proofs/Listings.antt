@@ -26,7 +26,7 @@ pub record IsListing (T : Topology) (b : BuiltValue) (steps left : List ℕ) (ho
   pub flagged : flags ≡ repeats_after (state_left b.machine.steps first ∷ []) (states_entered b.machine.steps done)
   pub visited : numbers ≡ seen b.machine.states (state_left b.machine.steps first ∷ states_entered b.machine.steps done)
 
-hops_more : (T : Topology) (b : BuiltValue) (ks : List ℕ) (hops : List Hop) (k : ℕ) (h : Hop) → AreHopsAt T b ks hops → IsHopAt T b k h → AreHopsAt T b (ks ++ k ∷ []) (hops ++ h ∷ [])
+pub hops_more : (T : Topology) (b : BuiltValue) (ks : List ℕ) (hops : List Hop) (k : ℕ) (h : Hop) → AreHopsAt T b ks hops → IsHopAt T b k h → AreHopsAt T b (ks ++ k ∷ []) (hops ++ h ∷ [])
 hops_more T b [] hops k h are is = subst (λ hs. AreHopsAt T b (k ∷ []) (hs ++ h ∷ [])) (sym are) (is, refl)
 hops_more T b (j ∷ ks) [] k h are is = absurd are
 hops_more T b (j ∷ ks) (g ∷ hops) k h are is = (are.0, hops_more T b ks hops k h are.1 is)

@@ -43,7 +43,7 @@ least_outcome T P (weight.Known cost hops) least = go (cases_lt HOP_LIMIT hops)
     go (inr l) = subst (λ o. IsCappedOutcome T P o) (sym (cond-false (nat_lt HOP_LIMIT hops) (Long cost hops) (Found cost hops) (le-ltb HOP_LIMIT hops l))) (least, l)
 
 module _ (T : Topology) (r : Request) (b : BuiltValue) (sound : IsSound T) (is : IsMachineOf T r b) where
-  lift : AreLifted T r b
+  pub lift : AreLifted T r b
   lift = lifted T r is.table is.kept b is.built
 
   -- what holds of the walks over kept labels holds of all walks
@@ -51,14 +51,14 @@ module _ (T : Topology) (r : Request) (b : BuiltValue) (sound : IsSound T) (is :
   all_walks o capped = exact_outcome T r o (kept_outcome T r (keeping_of is.table) sound is.kept.keepers o capped)
 
   -- the hops of a segment to a target are a walk
-  segment_walks : (state : StateNo) (ks : List ℕ) → Contains b.targets state → IsSegmentUnder b.machine.steps b.starts root.Request ks state → (hops : List Hop) → AreHopsAt T b ks hops → IsWalkOverKept T r hops × (weight_of T hops ≡ full_weight_of b.machine.steps ks)
+  pub segment_walks : (state : StateNo) (ks : List ℕ) → Contains b.targets state → IsSegmentUnder b.machine.steps b.starts root.Request ks state → (hops : List Hop) → AreHopsAt T b ks hops → IsWalkOverKept T r hops × (weight_of T hops ≡ full_weight_of b.machine.steps ks)
   segment_walks state ks listed segment hops are =
       let place = lift.targets.only state listed in
       let up = lift.hops root.Request ks state segment request place.0 hops tt place.1 are in
       (segment_walk T r hops (place.0, place.2, up.0), up.1)
 
   -- each walk over kept labels is of such hops
-  walk_steps : (hops : List Hop) → IsWalkOverKept T r hops → (state : StateNo) × Contains b.targets state × ((ks : List ℕ) × IsSegmentUnder b.machine.steps b.starts root.Request ks state × AreHopsAt T b ks hops)
+  pub walk_steps : (hops : List Hop) → IsWalkOverKept T r hops → (state : StateNo) × Contains b.targets state × ((ks : List ℕ) × IsSegmentUnder b.machine.steps b.starts root.Request ks state × AreHopsAt T b ks hops)
   walk_steps hops walk =
       let to = walk_segment T r hops walk in
       let state = lift.targets.all to.0 to.1 in

@@ -51,6 +51,11 @@ fn check_wish(inventory: &Inventory, id: &Id, class: PortNo, wish: Wish) -> Resu
 }
 
 /// Refuses a request that the topology does not know.
+///
+/// # Errors
+///
+/// `UnknownPort` where FROM or else TO is no port, `LabelNotHere` where the label that is stated at FROM or else at TO is not in the
+/// set of its port's class, and `NoMemory`.
 pub fn check_known(inventory: &Inventory, request: &Request) -> Result<(), SolveFault>
     requires sound { IsSound inventory.now }
     ensures ok { OnOk result (IsKnown inventory.now request.now) }

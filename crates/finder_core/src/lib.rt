@@ -9,4 +9,5 @@ mod searching;
 mod solving;
 
 pub use faults::SolveFault;
-pub use solving::solve;
+pub use known::check_known;
+pub use solving::{machine_of, solve};

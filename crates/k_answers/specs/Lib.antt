@@ -1,0 +1,2 @@
+pub mod KLists
+pub mod KAnswers
