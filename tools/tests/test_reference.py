@@ -12,9 +12,9 @@ from common import ROOT, TOOLS, needs_finder, run_finder, run_tool
 
 from finderlib.words import Command, read_table, table
 
-ANSWERS = {"FROM": "a", "TO": "b", "LABEL": "any", "FILE..": "/nowhere/file", "ANSWER": "/nowhere/answer", "N": "1"}
+ANSWERS = {"FROM": "a", "TO": "b", "LABEL": "any", "FILE..": "/nowhere/file", "ANSWER": "/nowhere/answer", "K": "1", "N": "1"}
 # A call of the program in the code of a page.
-CALL = re.compile(r"(?:`|^\$ |^    |\| )(?:\./)?finder ([a-z]+) ", re.MULTILINE)
+CALL = re.compile(r"(?:`|^\$ |^    |\| )(?:\./)?finder ([a-z-]+) ", re.MULTILINE)
 BASH = 'source "$1"; shift; COMP_WORDS=("$@"); COMP_CWORD=$(($# - 1)); _finder; printf "%s\\n" "${COMPREPLY[@]}"'
 ZSH = '_describe() { print -l $known }; _files() { print files $* }; compadd() { print -l $* }; complete() { source $file }; ' \
     'file=$1; shift; words=("$@"); CURRENT=$#; complete'
