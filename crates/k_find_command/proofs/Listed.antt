@@ -1,6 +1,5 @@
 -- The replies to a search for several walks have one status, which tells whether the request is known.
-use Rattle.std.proofs.Common.{◌≡◌, ◌∙◌, sym, refl, ap, subst, ℕ, ◌<◌, ◌≤◌, List, [], ◌∷◌, Some, inl, inr, arith, lit<}
-use Rattle.std.specs.Prelude.{Contains, length}
+use Rattle.std.proofs.Common.{◌≡◌, ◌∙◌, sym, refl, ap, subst, ℕ, ◌≤◌, List, [], ◌∷◌, Some, inl, inr, arith}
 use Rattle.ml_base.specs.declared.ends.KEnd.{KEnd}
 use Rattle.ml_base.specs.declared.ends.KEnd.TheVariants as ends
 use Rattle.circuit_spec.specs.declared.hops.Outcome.{Outcome}
@@ -9,7 +8,7 @@ use Rattle.circuit_spec.specs.declared.hops.Request.{Request}
 use Rattle.circuit_spec.specs.declared.hops.TheConstants.{HOP_LIMIT}
 use Rattle.circuit_spec.specs.Faults.{IsKnown}
 use Rattle.circuit_spec.specs.Network.{Topology}
-use Rattle.circuit_spec.specs.Steps.{IsOutcome}
+use Rattle.circuit_spec.specs.Steps.{IsOutcome, weight_of}
 use Rattle.circuit_spec.proofs.OneOutcome.{one_outcome}
 use Rattle.k_answers.specs.declared.answer.KHops.{KHops}
 use Rattle.k_answers.specs.KLists.{IsKList, outcome_found, outcome_told}
@@ -31,9 +30,11 @@ TellsWhatIs T r walks end = (outcome : Outcome) → outcome_told walks end ≡ S
 
 tells-list : (T : Topology) (r : Request) (k : ℕ) (walks : List KHops) (end : KEnd) → 1 ≤ k → IsKList T r k HOP_LIMIT walks end → TellsWhatIs T r walks end → Tells T r (k_status_of walks end)
 tells-list T r k (w ∷ ws) end some list told =
-    let listable = list.listable w (0, lit< tt, refl) in
-    record { outcome = _; is = told _ (ap outcome_found listable.weight); same = refl }
-tells-list T r k [] ends.Enough some list told = absurd (omega (arith, some, list.is_end))
+    let listable = list.listable w (0, omega arith, refl) in
+    let found = Found (weight_of T w.hops).cost (weight_of T w.hops).hops in
+    record { outcome = found; is = told found (ap outcome_found listable.weight); same = refl }
+tells-list T r k [] ends.Enough some list told =
+    let none : 0 ≡ k = list.is_end in absurd (omega (arith, some, none))
 tells-list T r k [] ends.NoMore some list told = record { outcome = NoWalk; is = told NoWalk refl; same = refl }
 tells-list T r k [] ends.Past some list told = record { outcome = Past; is = told Past refl; same = refl }
 tells-list T r k [] (ends.Long cost hops) some list told = record { outcome = Long cost hops; is = told (Long cost hops) refl; same = refl }
