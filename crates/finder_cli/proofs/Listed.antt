@@ -16,6 +16,7 @@ use Rattle.file_words.specs.Reading.{file_words}
 use Rattle.file_words.proofs.Accepted.{after-accepted}
 use Rattle.file_words.proofs.Passing.{over-domains}
 use Rattle.k_find_command.specs.Listing.{IsKFound}
+use Rattle.k_find_command.proofs.Listed.{listed-tells}
 use Rattle.finder_cli.specs.Answers.{CommandAnswers}
 use Rattle.finder_cli.specs.Headline.{Refuses}
 use Rattle.finder_cli.specs.Listing.{AsksList, ListsWalks, PrintsList}
@@ -33,12 +34,17 @@ k-found (Some contents) before after words r k T status reply e told calm asks d
 lists : (T : Topology) (r : Request) (k status : ℕ) (reply : Reply) (old new : Option (List ℕ)) → status ≡ code reply.status → IsKFound r k T reply → Appends old new reply.text
     → PrintsList T r k status old new ⊎ Refuses T r status old new
 lists T r k status reply old new e (inl p) printed = inr (refuses T r status reply old new e p printed)
-lists T r k status reply old new e (inr p) printed = inl (record {
-  answer = p.answer;
-  cheapest = p.cheapest;
-  is = e ∙ ap (λ (a : Reply). code a.status) p.is;
-  printed = subst (λ (a : Reply). Appends old new a.text) p.is printed;
-})
+lists T r k status reply old new e (inr p) printed =
+    let told = listed-tells T r k reply p in
+    inl (record {
+      answer = p.answer;
+      cheapest = p.cheapest;
+      is = e ∙ ap (λ (a : Reply). code a.status) p.is;
+      printed = subst (λ (a : Reply). Appends old new a.text) p.is printed;
+      outcome = told.outcome;
+      is_outcome = told.is;
+      told = e ∙ ap code told.same;
+    })
 
 pub says-lists : (words : Words) (before after : Store) (status : ℕ) (reply : Reply) (old new : Option (List ℕ)) → (Ran status → IsDone words before after status reply) → (status ≢ 6 → Appends old new reply.text)
     → ListsWalks words before after status old new
