@@ -47,13 +47,16 @@ def is_label(word):
 def command_of(words):
     """The command, the words of its request, and the words that name its files; or nothing where this is usage."""
     command, *rest = words or [""]
-    front = {"find": 4, "route": 4, "survey": 0, "check": 1, "replay": 1}.get(command)
+    front = {"find": 4, "route": 4, "k-find": 5, "survey": 0, "check": 1, "replay": 1}.get(command)
     if front is None or not 1 <= len(rest) - front <= VERIFY.FILES_LIMIT or "" in rest:
         return None
-    if front == 4 and not (VERIFY.is_id(rest[0]) and is_label(rest[1]) and VERIFY.is_id(rest[2]) and is_label(rest[3])):
+    if command == "k-find" and rest[0] not in [str(k) for k in range(1, 101)]:
+        return None
+    source, source_wish, target, target_wish = rest[front - 4:front] if front >= 4 else ("a", "any", "b", "any")
+    if not (VERIFY.is_id(source) and is_label(source_wish) and VERIFY.is_id(target) and is_label(target_wish)):
         return None
     names = rest if front == 1 else rest[front:]
-    return None if any(re.search("[\ud800-\udfff]", word) for word in words) else (command, rest[:front], names)
+    return None if any(re.search("[\ud800-\udfff]", word) for word in words) else (command, rest[max(front - 4, 0):front], names)
 
 
 def unread(contents, first):
@@ -257,6 +260,8 @@ def difference(words, stored, status, text):
     outcome, potentials = searched(network, request_of(request))
     if status != STATUSES[outcome.split(" ")[1]]:
         return f"{outcome}, status {STATUSES[outcome.split(' ')[1]]}"
+    if command == "k-find":
+        return None
     return wrong_document(text, words, network, files, outcome, potentials)
 
 

@@ -6,12 +6,14 @@
 Each network has one to three files, with aliases over the files, labels, groups, swapping, Nodes, conversions, adaptations that
 may nest without end, and costs from 0 to 2^64 - 1. The reference knows nothing of machines or derivations. For the outcome it takes
 all labels, and lowers the weight of each pair of a root and a place until nothing changes. For the potentials it does the same
-over the kept labels. The hops of a document are replayed, and its flags and rules made anew from them. Then `check` is to say valid to what
+over the kept labels. The hops of a document are replayed, and its flags and rules made anew from them. What `k-find` lists is held against
+the walks over kept labels themselves, one after another by weight, as far as they are made. Then `check` is to say valid to what
 `find` prints, and `replay` to carry what `route` prints; and of documents with a line dropped, doubled, moved or changed, `check` is to say
 what tools/verify says, a second checker that was written from docs/FORMATS.md. A difference is printed with its files, and the exit status
 is 1.
 """
 import argparse
+import heapq
 import importlib.machinery
 import importlib.util
 import json
@@ -20,6 +22,9 @@ import random
 import subprocess
 import sys
 import tempfile
+
+# After so many begun walks no more are made.
+BEGUN = 3000
 
 COSTS = [0, 0, 1, 1, 1, 2, 3, 5, 2**63, 2**64 - 1]
 LABELS = range(8)
@@ -405,6 +410,13 @@ def has_kept(network, kept, place):
     return place[1] is None or place[1] in kept[labels_of(network.ports[place[0]])[0]]
 
 
+def over_kept(network, request):
+    """The hops and the starts over kept labels."""
+    kept = kept_labels(network, request)
+    hops = [hop for hop in network.hops() if has_kept(network, kept, hop[1]) and has_kept(network, kept, hop[2])]
+    return hops, [place for place in network.allowed(request[0], request[1]) if has_kept(network, kept, place)]
+
+
 def place_key(place):
     return place[0].encode(), -1 if place[1] is None else place[1]
 
@@ -419,9 +431,7 @@ def weight_words(weight):
 
 def potential_lines(network, request):
     """The lines of the least weights over kept labels."""
-    kept = kept_labels(network, request)
-    hops = [hop for hop in network.hops() if has_kept(network, kept, hop[1]) and has_kept(network, kept, hop[2])]
-    starts = [place for place in network.allowed(request[0], request[1]) if has_kept(network, kept, place)]
+    hops, starts = over_kept(network, request)
     weights = least_weights(network, starts, hops)
     top = weights.pop(None, {})
     lines = [f"top {place_words(y)} {weight_words(top[y])}" for y in sorted(top, key=place_key)]
@@ -468,6 +478,93 @@ def check_document(network, request, lines, least, potentials):
     for number, (line, due) in enumerate(zip(lines + [None] * len(want), want + [None] * len(lines)), 4):
         if line != due:
             return f"line {number} is {line}, wanted {due}"
+    return None
+
+
+# ---- lists
+
+def leads_on(hops, targets):
+    """The places from which hops lead to a target, whatever is on the stack."""
+    places, grows = set(targets), True
+    while grows:
+        more = {hop[1] for hop in hops if hop[2] in places} - places
+        places |= more
+        grows = bool(more)
+    return places
+
+
+def begin_walks(network, request):
+    """Walks over kept labels by weight, each with the lines of its hops but for their numbers, and where it ends, with its stack: all that
+    begin so, walks or not. No two have the same hops."""
+    hops, starts = over_kept(network, request)
+    targets = network.allowed(request[2], request[3])
+    places = leads_on(hops, targets)
+    waiting = [((0, 0), number, (), place, ()) for number, place in enumerate(starts) if place in places]
+    count, empty = len(waiting), False
+    heapq.heapify(waiting)
+    while waiting:
+        (cost, length), _, walk, place, stack = heapq.heappop(waiting)
+        is_walk = not stack and place in targets and not (empty and not walk)
+        empty = empty or (is_walk and not walk)
+        yield (cost, length), walk, is_walk
+        for text, x, y, price, push, pop in hops:
+            if x != place or y not in places or (pop is not None and (not stack or stack[-1] != pop)):
+                continue
+            after = stack + (push,) if push is not None else stack[:-1] if pop is not None else stack
+            count += 1
+            heapq.heappush(waiting, ((cost + price, length + 1), count, walk + (" ".join(text),), y, after))
+
+
+def walks_of(network, request, most):
+    """The first walks by weight, at most so many, and the weight below which there are no others: nothing where there are none at all."""
+    found = []
+    for number, (weight, walk, is_walk) in enumerate(begin_walks(network, request)):
+        if number == BEGUN or len(found) == most:
+            return found, weight
+        if is_walk:
+            found.append((weight, walk))
+    return found, None
+
+
+def read_list(lines):
+    """The walks of a list, each with its weight, and the words of its end."""
+    walks = []
+    for line in lines[2:-2]:
+        words = line.split(" ")
+        if words[0] == "walk":
+            walks.append(((int(words[2]), int(words[3])), []))
+        else:
+            walks[-1][1].append(line)
+    return walks, lines[-2].split(" ")
+
+
+def check_list(network, request, k, lines, want):
+    """Why these lines are no list of the k cheapest walks, or nothing."""
+    walks, end = read_list(lines)
+    again = [f"walk {number} {weight[0]} {weight[1]}" for number, (weight, _) in enumerate(walks, 1)]
+    if [line for line in lines if line.startswith("walk ")] != again or lines[-1] != "end" or len(walks) > k:
+        return "it is no list"
+    for weight, hops in walks:
+        told = check_hops(network, request, hops, weight)
+        if told is not None or weight[0] >= 2**64:
+            return told or "a walk is past"
+    listed = [(weight, tuple(line.split(" ", 2)[2] for line in hops)) for weight, hops in walks]
+    if listed != sorted(listed, key=lambda walk: walk[0]) or len(set(listed)) < len(listed):
+        return "the walks do not rise, or one stands twice"
+    found, bound = walks_of(network, request, k + 1)
+    others = [walk for walk in found if walk not in listed]
+    if any(bound is None or walk[0] < bound for walk in set(listed) - set(found)):
+        return "a listed walk is none over kept labels"
+    if any(other[0] < walk[0] for other in others for walk in listed):
+        return f"a lighter walk is not listed: {others[0]}"
+    if (end == ["more", "enough"]) != (len(listed) == k):
+        return "the end is wrong"
+    if end in (["more", "none"], ["more", "past"]) and any(end[1] == "none" or other[0][0] < 2**64 for other in others):
+        return f"there is another walk: {others[0]}"
+    if end == ["more", "past"] and bound is None and not others:
+        return "there is no other walk"
+    if not listed and end[1:] != want.split(" ")[1:]:
+        return f"the end is {' '.join(end)}, wanted {want}"
     return None
 
 
@@ -556,6 +653,14 @@ def difference(program, folder, domains, request, rng):
         if told is not None:
             return f"{command}: {told}"
         documents.append(run.stdout)
+    k = rng.choice([1, 2, 3, 5, 9])
+    run = subprocess.run([program, "k-find", str(k), *request, *names], capture_output=True, text=True)
+    lines = run.stdout.splitlines()
+    if lines[:2] != ["circuits 1", "request " + " ".join(request)] or run.returncode != status:
+        return f"k-find {k}: printed {lines[:2]}, status {run.returncode}; wanted status {status}"
+    told = check_list(network, request, k, lines, want)
+    if told is not None:
+        return f"k-find {k}: {told}, in\n{run.stdout}"
     return examined(program, folder, names, want, *documents, rng)
 
 

@@ -8,7 +8,7 @@ _finder() {
     local word=${COMP_WORDS[COMP_CWORD]}
     COMPREPLY=()
     case "$COMP_CWORD ${COMP_WORDS[1]}" in
-        "1 "*) mapfile -t COMPREPLY < <(compgen -W "find route check replay survey drill" -- "$word") ;;
+        "1 "*) mapfile -t COMPREPLY < <(compgen -W "find route k-find check replay survey drill" -- "$word") ;;
         "2 find") : ;;
         "3 find") mapfile -t COMPREPLY < <(compgen -W any -- "$word") ;;
         "4 find") : ;;
@@ -19,6 +19,12 @@ _finder() {
         "4 route") : ;;
         "5 route") mapfile -t COMPREPLY < <(compgen -W any -- "$word") ;;
         *" route") _finder_files '!*.json' "$word" ;;
+        "2 k-find") : ;;
+        "3 k-find") : ;;
+        "4 k-find") mapfile -t COMPREPLY < <(compgen -W any -- "$word") ;;
+        "5 k-find") : ;;
+        "6 k-find") mapfile -t COMPREPLY < <(compgen -W any -- "$word") ;;
+        *" k-find") _finder_files '!*.json' "$word" ;;
         "2 check") _finder_files "" "$word" ;;
         *" check") _finder_files '!*.json' "$word" ;;
         "2 replay") _finder_files "" "$word" ;;

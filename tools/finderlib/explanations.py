@@ -22,13 +22,17 @@ class Explanation:
     remedy: str
 
 
+# At which word FROM stands, of the commands that have a request.
+REQUEST_AT = {"find": 1, "route": 1, "k-find": 2}
+
+
 class Words:
     """The words that finder was called with, and the files that they name, read when they are asked for."""
 
     def __init__(self, words: list[str]):
         self.words = words
         self.command = words[0] if words else ""
-        first = {"find": 5, "route": 5, "check": 2, "replay": 2, "survey": 1}.get(self.command, len(words))
+        first = {"find": 5, "route": 5, "k-find": 6, "check": 2, "replay": 2, "survey": 1}.get(self.command, len(words))
         self.files = words[first:]
         self.answer_file = words[1] if self.command in ("check", "replay") and len(words) > 1 else None
         self._contents: dict[int, LooseFile] = {}
@@ -76,10 +80,11 @@ class Words:
         return None
 
     def refusal(self) -> str | None:
-        """The refusal of a request to `find` or `route` over accepted files, as its line."""
-        if self.command not in ("find", "route") or len(self.words) < 6:
+        """The refusal of a request over accepted files, as its line."""
+        at = REQUEST_AT.get(self.command)
+        if at is None or len(self.words) < at + 5:
             return None
-        source, source_wish, target, target_wish = self.words[1:5]
+        source, source_wish, target, target_wish = self.words[at:at + 4]
         for port in (source, target):
             if not self.network.is_port(port):
                 return f"request unknown-port {port}"
@@ -253,7 +258,8 @@ def explain_unknown_port(words: Words, fields: dict[str, Any]) -> Explanation:
 
 
 def _end(words: Words, port: str) -> str:
-    ends = [end for end, at in (("FROM", 1), ("TO", 3)) if words.command in ("find", "route") and words.words[at:at + 1] == [port]]
+    first = REQUEST_AT.get(words.command, len(words.words))
+    ends = [end for end, at in (("FROM", first), ("TO", first + 2)) if words.words[at:at + 1] == [port]]
     return f"{' and '.join(ends)} of the request" if ends else "the request"
 
 
@@ -289,16 +295,19 @@ def explain_usage(words: Words, fields: dict[str, Any]) -> Explanation:
 
 
 def _wrong_words(words: Words) -> str:
-    needed = {"find": 6, "route": 6, "check": 3, "replay": 3, "survey": 2, "drill": 2}
+    needed = {"find": 6, "route": 6, "k-find": 7, "check": 3, "replay": 3, "survey": 2, "drill": 2}
     if words.command not in needed:
         return f"{shown(words.command)} is no command." if words.words else "There are no words."
     if len(words.words) < needed[words.command]:
         return f"`{words.command}` needs at least {needed[words.command] - 1} words behind it, and has {len(words.words) - 1}."
-    if words.command in ("find", "route"):
-        for at in (1, 3):
+    if words.command == "k-find" and words.words[1] not in [str(number) for number in range(1, 101)]:
+        return "`k-find` takes first a number from 1 to 100 without a zero in front."
+    if words.command in REQUEST_AT:
+        first = REQUEST_AT[words.command]
+        for at in (first, first + 2):
             if not _is_id(words.words[at]):
                 return f"{shown(words.words[at])} is no id: 1 to 255 characters, printable ASCII without spaces."
-        for at in (2, 4):
+        for at in (first + 1, first + 3):
             if words.words[at] != "any" and not (words.words[at].isascii() and words.words[at].isdigit()
                                                  and str(int(words.words[at][:20])) == words.words[at] and int(words.words[at]) < 2**32):
                 return f"{shown(words.words[at])} is no label: `any`, or a number from 0 to 4294967295 without a zero in front."

@@ -4,7 +4,7 @@ from dataclasses import dataclass
 from pathlib import Path
 
 FORMATS = Path(__file__).resolve().parent.parent.parent / "docs" / "FORMATS.md"
-_COMMAND = re.compile(r"^\| `([a-z]+)((?: [A-Z]+(?:\.\.)?)*)` \| (.+?) \|$", re.MULTILINE)
+_COMMAND = re.compile(r"^\| `([a-z-]+)((?: [A-Z]+(?:\.\.)?)*)` \| (.+?) \|$", re.MULTILINE)
 _STATUS = re.compile(r"^\| (\d+) \| (.+?) \| ((?:[^|\\]|\\.)*)\|$", re.MULTILINE)
 _PART = re.compile(r"^## 3\. The words$(.*?)^## ", re.MULTILINE | re.DOTALL)
 

@@ -12,9 +12,9 @@ from common import ROOT, TOOLS, needs_finder, run_finder, run_tool
 
 from finderlib.words import Command, read_table, table
 
-ANSWERS = {"FROM": "a", "TO": "b", "LABEL": "any", "FILE..": "/nowhere/file", "ANSWER": "/nowhere/answer", "N": "1"}
+ANSWERS = {"FROM": "a", "TO": "b", "LABEL": "any", "FILE..": "/nowhere/file", "ANSWER": "/nowhere/answer", "K": "1", "N": "1"}
 # A call of the program in the code of a page.
-CALL = re.compile(r"(?:`|^\$ |^    |\| )(?:\./)?finder ([a-z]+) ", re.MULTILINE)
+CALL = re.compile(r"(?:`|^\$ |^    |\| )(?:\./)?finder ([a-z-]+) ", re.MULTILINE)
 BASH = 'source "$1"; shift; COMP_WORDS=("$@"); COMP_CWORD=$(($# - 1)); _finder; printf "%s\\n" "${COMPREPLY[@]}"'
 ZSH = '_describe() { print -l $known }; _files() { print files $* }; compadd() { print -l $* }; complete() { source $file }; ' \
     'file=$1; shift; words=("$@"); CURRENT=$#; complete'
@@ -64,11 +64,10 @@ class TableTest(unittest.TestCase):
         usage = next(it for it in table().statuses if it.number == 2).prints.strip("`")
         named = {name: words for part in usage.removeprefix("usage: ").split(" | ") for head, *words in [part.split()] for name in head.split("|")}
         known = {it.name: list(it.words) for it in table().commands}
-        self.assertEqual(known, {name: words for name, words in named.items() if name in known})
-        for name, words in named.items():
+        self.assertEqual({name: known.get(name) for name in named}, named)
+        for name, words in known.items():
             with self.subTest(name):
-                ran = run_finder(name, *[ANSWERS[it] for it in words])
-                self.assertEqual(ran.returncode != 2, name in known)
+                self.assertNotEqual(run_finder(name, *[ANSWERS[it] for it in words]).returncode, 2)
         self.assertEqual(run_finder().stdout.decode(), f"{usage}\n")
 
 
@@ -95,7 +94,7 @@ class CompletionTest(unittest.TestCase):
 
     def test_bash(self) -> None:
         names = [it.name for it in table().commands]
-        for words, found in {("",): names, ("su",): ["survey"], ("find", ""): [""], ("find", "a", ""): ["any"], ("find", "a", "1"): [""],
+        for words, found in {("",): names, ("su",): ["survey"], ("find", ""): [""], ("k-find", "2", "a", ""): ["any"], ("find", "a", ""): ["any"], ("find", "a", "1"): [""],
                              ("find", "a", "any", "b", "a"): ["any"], ("find", "a", "any", "b", "any", "n"): ["net one.json", "nets"],
                              ("survey", "net one.json", "nets"): ["nets"], ("nothing", ""): [""]}.items():
             with self.subTest(words):

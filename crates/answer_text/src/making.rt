@@ -49,7 +49,8 @@ fn push_flag(line: &mut Line, flag: Option<u64>)
     }
 }
 
-fn push_weight(line: &mut Line, weight: Weight)
+/// Puts the words of a weight at the end of the line, each behind a space.
+pub fn push_weight(line: &mut Line, weight: Weight)
     requires { length line.old + 42 ≤ 1280 }
     ensures spelled { line.new ≡ line.old ++ spaced_each (weight_words weight) }
     ensures long { length line.new ≤ length line.old + 42 }
@@ -63,7 +64,8 @@ fn push_weight(line: &mut Line, weight: Weight)
     }
 }
 
-pub(crate) fn make_request_line(request: &Request) -> Line
+/// The line of a request, with its newline.
+pub fn make_request_line(request: &Request) -> Line
     ensures { result ≡ request_line request.now ++ 10 ∷ [] }
 {
     let mut line = Line::new();
@@ -76,8 +78,8 @@ pub(crate) fn make_request_line(request: &Request) -> Line
     line
 }
 
-// A line of these first words, a cost and a number of hops.
-fn make_known_line(words: &[u8], cost: u64, hops: u64) -> Line
+/// A line of these first words, a cost and a number of hops.
+pub fn make_known_line(words: &[u8], cost: u64, hops: u64) -> Line
     requires { length words.now ≤ 20 }
     ensures { result ≡ words.now ++ (32 ∷ (decimal cost ++ 32 ∷ (decimal hops ++ 10 ∷ []))) }
 {
@@ -89,7 +91,8 @@ fn make_known_line(words: &[u8], cost: u64, hops: u64) -> Line
     line
 }
 
-fn make_text_line(text: &[u8]) -> Line
+/// A line of this text.
+pub fn make_text_line(text: &[u8]) -> Line
     requires { length text.now ≤ 20 }
     ensures { result ≡ text.now ++ 10 ∷ [] }
 {
@@ -110,7 +113,8 @@ pub(crate) fn make_outcome_line(outcome: Outcome) -> Line
     }
 }
 
-pub(crate) fn make_hop_line(number: u64, hop: &Hop, flag: Option<u64>) -> Line
+/// The line of a hop of this number, and of its flag where it has one.
+pub fn make_hop_line(number: u64, hop: &Hop, flag: Option<u64>) -> Line
     ensures { result ≡ hop_line number hop.now flag ++ 10 ∷ [] }
 {
     let mut line = Line::new();
@@ -164,7 +168,8 @@ pub(crate) fn make_version_line() -> Line
     make_text_line(b"circuit 1")
 }
 
-pub(crate) fn make_end_line() -> Line
+/// The last line.
+pub fn make_end_line() -> Line
     ensures { result ≡ Rattle.std.specs.Prelude.codes "end" ++ 10 ∷ [] }
 {
     make_text_line(b"end")

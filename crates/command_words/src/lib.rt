@@ -5,4 +5,4 @@
 
 mod words;
 
-pub use words::{Command, End, Examined, NameList, WordsFault, parse_words};
+pub use words::{Asked, Command, End, Examined, NameList, WordsFault, parse_words};

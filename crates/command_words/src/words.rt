@@ -1,7 +1,7 @@
-ghost use Rattle.std.specs.Prelude.{◌≡◌, ◌<◌, ◌≤◌, ◌&&◌, string_bytes, IsTrue, IfOk, length, map, nat_le, nat_lt};
+ghost use Rattle.std.specs.Prelude.{◌≡◌, ◌<◌, ◌≤◌, ◌+◌, ◌&&◌, string_bytes, IsTrue, IfOk, length, map, nat_le, nat_lt};
 ghost use Rattle.std.specs.List.{list_all};
 ghost use Rattle.line_text.specs.Fields.{id_of, wish_of};
-ghost use Rattle.command_words.specs.Words.{check_of, command_of, drill_of, end_of, examined_of, files_of, find_of, levels_of, replay_of, survey_of, has_bytes, HasFewLevels, NamesFewFiles};
+ghost use Rattle.command_words.specs.Words.{asked_of, check_of, command_of, count_of, drill_of, end_of, examined_of, files_of, find_of, k_find_of, replay_of, survey_of, has_bytes, CountsFew, NamesFewFiles};
 ghost use Rattle.command_words.specs.Spells.{Spells};
 
 use circuit_spec::Request;
@@ -23,6 +23,12 @@ pub enum Command {
         files: NameList,
         potentials: bool,
     },
+    /// As many of its cheapest circuits, listed.
+    KFind {
+        k: u32,
+        request: Request,
+        files: NameList,
+    },
     /// Whether the document in this file holds over these topology files.
     Check {
         answer: Name,
@@ -41,6 +47,13 @@ pub enum Command {
     Drill {
         levels: u32,
     },
+}
+
+/// A request, and the topology files that it is asked over.
+#[derive(Drop)]
+pub struct Asked {
+    pub request: Request,
+    pub files: NameList,
 }
 
 /// A document, and the topology files that it is examined over.
@@ -148,11 +161,10 @@ fn parse_end(alloc: Global, port: &str, wish: &str) -> Result<End, WordsFault>
     Ok(End { port, wish })
 }
 
-#[tactic(auto, unfolding(crate::specs::Words::find_of))]
-fn parse_find(alloc: Global, words: &[String], potentials: bool) -> Result<Command, WordsFault>
-    ensures spelled { Spells result (find_of potentials words.now) }
-    ensures few { IfOk result NamesFewFiles }
-    ensures levels { IfOk result HasFewLevels }
+#[tactic(auto, unfolding(crate::specs::Words::asked_of))]
+fn parse_asked(alloc: Global, words: &[String]) -> Result<Asked, WordsFault>
+    ensures spelled { Spells result (asked_of words.now) }
+    ensures few { IfOk result (λ asked. length asked.files ≤ 64) }
 {
     let [from, from_wish, to, to_wish, names @ ..] = words else {
         return Err(WordsFault::Usage);
@@ -166,11 +178,52 @@ fn parse_find(alloc: Global, words: &[String], potentials: bool) -> Result<Comma
         to: target.port,
         to_wish: target.wish,
     };
+    Ok(Asked { request, files })
+}
+
+#[tactic(auto, unfolding(crate::specs::Words::find_of))]
+fn parse_find(alloc: Global, words: &[String], potentials: bool) -> Result<Command, WordsFault>
+    ensures spelled { Spells result (find_of potentials words.now) }
+    ensures few { IfOk result NamesFewFiles }
+    ensures count { IfOk result CountsFew }
+{
+    let Asked { request, files } = parse_asked(alloc, words)?;
     Ok(Command::Find {
         request,
         files,
         potentials,
     })
+}
+
+#[tactic(auto, unfolding(crate::specs::Words::count_of))]
+fn parse_count(word: &str, most: u32) -> Result<u32, WordsFault>
+    ensures spelled { Spells result (count_of most word.now) }
+    ensures some { IfOk result (λ count. 1 ≤ count) }
+    ensures few { IfOk result (λ count. count ≤ most) }
+{
+    match line_text::number(word.as_bytes(), most as u64) {
+        Some(count) => {
+            if count < 1 {
+                return Err(WordsFault::Usage);
+            }
+            Ok(count as u32)
+        }
+        None => Err(WordsFault::Usage),
+    }
+}
+
+#[tactic(auto, unfolding(crate::specs::Words::k_find_of))]
+fn parse_k_find(alloc: Global, words: &[String]) -> Result<Command, WordsFault>
+    ensures spelled { Spells result (k_find_of words.now) }
+    ensures few { IfOk result NamesFewFiles }
+    ensures count { IfOk result CountsFew }
+{
+    let Some((word, rest)) = words.split_first() else {
+        return Err(WordsFault::Usage);
+    };
+    let k = parse_count(word.as_str(), 100)?;
+    let Asked { request, files } = parse_asked(alloc, rest)?;
+    Ok(Command::KFind { k, request, files })
 }
 
 #[tactic(auto, unfolding(crate::specs::Words::examined_of))]
@@ -193,7 +246,7 @@ fn parse_examined(alloc: Global, words: &[String]) -> Result<Examined, WordsFaul
 fn parse_check(alloc: Global, words: &[String]) -> Result<Command, WordsFault>
     ensures spelled { Spells result (check_of words.now) }
     ensures few { IfOk result NamesFewFiles }
-    ensures levels { IfOk result HasFewLevels }
+    ensures count { IfOk result CountsFew }
 {
     let Examined { answer, files } = parse_examined(alloc, words)?;
     Ok(Command::Check { answer, files })
@@ -203,7 +256,7 @@ fn parse_check(alloc: Global, words: &[String]) -> Result<Command, WordsFault>
 fn parse_replay(alloc: Global, words: &[String]) -> Result<Command, WordsFault>
     ensures spelled { Spells result (replay_of words.now) }
     ensures few { IfOk result NamesFewFiles }
-    ensures levels { IfOk result HasFewLevels }
+    ensures count { IfOk result CountsFew }
 {
     let Examined { answer, files } = parse_examined(alloc, words)?;
     Ok(Command::Replay { answer, files })
@@ -213,52 +266,36 @@ fn parse_replay(alloc: Global, words: &[String]) -> Result<Command, WordsFault>
 fn parse_survey(alloc: Global, names: &[String]) -> Result<Command, WordsFault>
     ensures spelled { Spells result (survey_of names.now) }
     ensures few { IfOk result NamesFewFiles }
-    ensures levels { IfOk result HasFewLevels }
+    ensures count { IfOk result CountsFew }
 {
     let files = parse_files(alloc, names)?;
     Ok(Command::Survey { files })
-}
-
-#[tactic(auto, unfolding(crate::specs::Words::levels_of))]
-fn parse_levels(word: &str) -> Result<u32, WordsFault>
-    ensures spelled { Spells result (levels_of word.now) }
-    ensures some { IfOk result (λ levels. 1 ≤ levels) }
-    ensures few { IfOk result (λ levels. levels ≤ 4096) }
-{
-    match line_text::number(word.as_bytes(), 4096) {
-        Some(levels) => {
-            if levels < 1 {
-                return Err(WordsFault::Usage);
-            }
-            Ok(levels as u32)
-        }
-        None => Err(WordsFault::Usage),
-    }
 }
 
 #[tactic(auto, unfolding(crate::specs::Words::drill_of))]
 fn parse_drill(words: &[String]) -> Result<Command, WordsFault>
     ensures spelled { Spells result (drill_of words.now) }
     ensures few { IfOk result NamesFewFiles }
-    ensures levels { IfOk result HasFewLevels }
+    ensures count { IfOk result CountsFew }
 {
     let [word] = words else {
         return Err(WordsFault::Usage);
     };
-    let levels = parse_levels(word.as_str())?;
+    let levels = parse_count(word.as_str(), 4096)?;
     Ok(Command::Drill { levels })
 }
 
 /// The command that the words behind the program's name spell.
 ///
-/// `find FROM LABEL TO LABEL FILE..`, `route` with the same words, `check ANSWER FILE..`, `replay ANSWER FILE..`, `survey FILE..` and
-/// `drill N`, where FROM and TO are ids, LABEL is `any` or a decimal below 2^32 without leading zeros, FILE stands 1 to 64 times, ANSWER
-/// and FILE are not empty, and N is such a decimal from 1 to 4096. All other words are usage.
+/// `find FROM LABEL TO LABEL FILE..`, `route` with the same words, `k-find K FROM LABEL TO LABEL FILE..`, `check ANSWER FILE..`,
+/// `replay ANSWER FILE..`, `survey FILE..` and `drill N`, where FROM and TO are ids, LABEL is `any` or a decimal below 2^32 without
+/// leading zeros, FILE stands 1 to 64 times, ANSWER and FILE are not empty, and K and N are such decimals, K from 1 to 100 and N from 1
+/// to 4096. All other words are usage.
 #[tactic(auto, unfolding(crate::specs::Words::command_of))]
 pub fn parse_words(alloc: Global, words: &[String]) -> Result<Command, WordsFault>
     ensures spelled { Spells result (command_of words.now) }
     ensures few { IfOk result NamesFewFiles }
-    ensures levels { IfOk result HasFewLevels }
+    ensures count { IfOk result CountsFew }
 {
     let Some((word, rest)) = words.split_first() else {
         return Err(WordsFault::Usage);
@@ -266,6 +303,7 @@ pub fn parse_words(alloc: Global, words: &[String]) -> Result<Command, WordsFaul
     match word.as_str() {
         "find" => parse_find(alloc, rest, true),
         "route" => parse_find(alloc, rest, false),
+        "k-find" => parse_k_find(alloc, rest),
         "check" => parse_check(alloc, rest),
         "replay" => parse_replay(alloc, rest),
         "survey" => parse_survey(alloc, rest),

@@ -42,7 +42,8 @@ fn shown(alloc: Global, answer: Answer, potentials: bool) -> Answer
     without_potentials(alloc, answer)
 }
 
-fn request_reply(alloc: Global, fault: &SolveFault) -> Result<Reply, NoMemory>
+/// The reply to a request that the topology does not know: a line that tells the first cause.
+pub fn request_reply(alloc: Global, fault: &SolveFault) -> Result<Reply, NoMemory>
     ensures told { IfOk result (λ reply. fault.now ≢ SolveFault.NoMemory) }
     ensures line { IfOk result (IsText Status.NoRequest (request_line fault.now)) }
 {

@@ -4,4 +4,4 @@
 mod finding;
 mod lines;
 
-pub use finding::find;
+pub use finding::{find, request_reply};

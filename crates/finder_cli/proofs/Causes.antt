@@ -15,10 +15,12 @@ use Rattle.file_words.specs.declared.reading.FileWord.{FileWord}
 use Rattle.replies.specs.declared.reply.Reply.{Reply}
 use Rattle.replies.specs.declared.reply.Status.TheVariants as statuses
 use Rattle.command_words.specs.declared.words.Command.{Command}
-use Rattle.command_words.specs.declared.words.Command.TheVariants.{Find, Check, Replay, Survey, Drill}
+use Rattle.command_words.specs.declared.words.Command.TheVariants.{Find, KFind, Check, Replay, Survey, Drill}
 use Rattle.file_words.specs.Accepting.{IsRejected, IfAccepted}
 use Rattle.finder_cli.specs.Answers.{files_named, own_words, words_read, Replies, CommandAnswers, Answers}
 use Rattle.find_command.specs.Finding.{IsFound}
+use Rattle.k_find_command.specs.Listing.{IsKFound}
+use Rattle.k_find_command.proofs.Listed.{listed-tells}
 use Rattle.file_words.specs.Reading.{EndsEarly, IsDomain, IsFaulty, IsRefused, StopsReading}
 use Rattle.finder_cli.specs.Premises.{Ran, AreReadFor}
 use Rattle.finder_cli.specs.Sentences.{FindsFault, FindsUsage, IsFaultLine, IsNotRead, IsTooLarge, TellsFault}
@@ -79,6 +81,10 @@ found-late : (r : Request) (potentials : Bool) (T : Topology) (a : Reply) → Is
 found-late r potentials T a (inl p) = late-of (code_of a) (inr (inr (inl (ap code_of p.is))))
 found-late r potentials T a (inr p) = outcome-late p.answer.outcome (code_of a) (ap code_of p.is)
 
+k-found-late : (r : Request) (k : ℕ) (T : Topology) (a : Reply) → IsKFound r k T a → IsLate (code_of a)
+k-found-late r k T a (inl p) = late-of (code_of a) (inr (inr (inl (ap code_of p.is))))
+k-found-late r k T a (inr p) = let told = listed-tells T r k a p in outcome-late told.outcome (code_of a) (ap code told.same)
+
 survey-late : (T : Topology) (a : Reply) → IsSurvey T a → IsLate (code_of a)
 survey-late T a p = late-of (code_of a) (inl (ap code_of p.is))
 
@@ -90,6 +96,7 @@ drilled-late levels a p = outcome-late p.answer.outcome (code_of a) (ap code_of 
 
 replies-late : (command : Command) (held : List (List ℕ)) (T : Topology) (a : Reply) → Replies command held T a → IsLate (code_of a)
 replies-late (Find request files potentials) held T a p = found-late request potentials T a p
+replies-late (KFind k request files) held T a p = k-found-late request k T a p
 replies-late (Check answer files) held T a p = examined-late question.Check held T a p
 replies-late (Replay answer files) held T a p = examined-late question.Replay held T a p
 replies-late (Survey files) held T a p = survey-late T a p

@@ -104,7 +104,7 @@ answered-by T r potentials status reply old new p e printed = by-outcome p.answe
     by-outcome (Long cost hops) is =
         inr (inr (inr (inl (record { is = told (Long cost hops) is; shows = shows-of T r potentials reply old new p printed; cost = cost; hops = hops; outcome = is; long = means (Long cost hops) is }))))
 
-refuses : (T : Topology) (r : Request) (status : ℕ) (reply : Reply) (old new : Option (List ℕ)) → status ≡ code reply.status → IsUnknown T r reply → Appends old new reply.text → Refuses T r status old new
+pub refuses : (T : Topology) (r : Request) (status : ℕ) (reply : Reply) (old new : Option (List ℕ)) → status ≡ code reply.status → IsUnknown T r reply → Appends old new reply.text → Refuses T r status old new
 refuses T r status reply old new e p printed = record {
   is = e ∙ ap code_of p.is;
   fault = p.fault;

@@ -5,5 +5,6 @@ pub mod Causes
 pub mod Stopped
 pub mod Statuses
 pub mod Counted
+mod Listed
 mod Drilled
 mod Examining

@@ -5,13 +5,14 @@ use Rattle.io_edges.specs.Counts.{Rose}
 use Rattle.io_edges.specs.Reads.{Store, Contents}
 use Rattle.circuit_spec.specs.Network.{Topology}
 use Rattle.command_words.specs.declared.words.Command.{Command}
-use Rattle.command_words.specs.declared.words.Command.TheVariants.{Find, Check, Replay, Survey, Drill}
+use Rattle.command_words.specs.declared.words.Command.TheVariants.{Find, KFind, Check, Replay, Survey, Drill}
 use Rattle.command_words.specs.Words.{Words, command_of}
 use Rattle.replies.specs.declared.reply.Reply.{Reply}
 use Rattle.file_words.specs.Accepting.{IfAccepted}
 use Rattle.file_words.proofs.Accepted.{accepted-one}
 use Rattle.file_words.proofs.Passing.{SameStatus, by-lines, over-files}
 use Rattle.find_command.proofs.Searched.{found-one}
+use Rattle.k_find_command.proofs.Listed.{k-found-one}
 use Rattle.survey_command.proofs.Surveyed.{survey-one}
 use Rattle.check_command.specs.declared.examining.Question.TheVariants as question
 use Rattle.check_command.proofs.Examined.{examined-one}
@@ -23,6 +24,7 @@ Told = List ℕ → Option (List ℕ)
 
 replies-one : (command : Command) (held : List (List ℕ)) (T : Topology) (a b : Reply) → Replies command held T a → Replies command held T b → SameStatus a b
 replies-one (Find request files potentials) held T a b p q = found-one request potentials T a b p q
+replies-one (KFind k request files) held T a b p q = k-found-one request k T a b p q
 replies-one (Check answer files) held T a b p q = examined-one question.Check held T a b p q
 replies-one (Replay answer files) held T a b p q = examined-one question.Replay held T a b p q
 replies-one (Survey files) held T a b p q = survey-one T a b p q

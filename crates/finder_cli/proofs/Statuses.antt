@@ -10,12 +10,14 @@ use Rattle.circuit_spec.specs.declared.hops.Outcome.TheVariants.{Found, NoWalk, 
 use Rattle.circuit_spec.specs.declared.hops.Request.{Request}
 use Rattle.circuit_spec.specs.Network.{Topology}
 use Rattle.command_words.specs.declared.words.Command.{Command}
-use Rattle.command_words.specs.declared.words.Command.TheVariants.{Find, Check, Replay, Survey, Drill}
+use Rattle.command_words.specs.declared.words.Command.TheVariants.{Find, KFind, Check, Replay, Survey, Drill}
 use Rattle.command_words.specs.Words.{Word, Words, command_of}
 use Rattle.replies.specs.declared.reply.Reply.{Reply}
 use Rattle.replies.specs.Status.{code, status_of}
 use Rattle.file_words.specs.Accepting.{IfAccepted}
 use Rattle.find_command.specs.Finding.{IsFound}
+use Rattle.k_find_command.specs.Listing.{IsKFound}
+use Rattle.k_find_command.proofs.Listed.{listed-tells}
 use Rattle.survey_command.specs.Surveying.{IsSurvey}
 use Rattle.check_command.specs.declared.examining.Question.{Question}
 use Rattle.check_command.specs.declared.examining.Question.TheVariants as question
@@ -53,6 +55,12 @@ found-may : (r : Request) (names : List Word) (potentials : Bool) (T : Topology)
 found-may r names potentials T a (inl p) = at (Search r names potentials) (code_of a) 4 (ap code_of p.is) (5, lit< tt, refl)
 found-may r names potentials T a (inr p) = at (Search r names potentials) (code_of a) (code (status_of p.answer.outcome)) (ap code_of p.is) (outcome-may r names potentials p.answer.outcome)
 
+-- a search for several walks ends with the statuses of a search for one
+k-found-may : (k : ℕ) (r : Request) (names : List Word) (T : Topology) (a : Reply) → IsKFound r k T a → May (Some (KFind k r names)) (code_of a)
+k-found-may k r names T a (inl p) = at (Some (KFind k r names)) (code_of a) 4 (ap code_of p.is) (5, lit< tt, refl)
+k-found-may k r names T a (inr p) =
+    let told = listed-tells T r k a p in at (Some (KFind k r names)) (code_of a) (code (status_of told.outcome)) (ap code told.same) (outcome-may r names true told.outcome)
+
 -- ---- documents
 
 -- the command may end with 0 or 9
@@ -84,6 +92,7 @@ drilled-may levels a few p = at (Some (Drill levels)) (code_of a) (code (status_
 
 replies-may : (command : Command) (held : List (List ℕ)) (T : Topology) (a : Reply) → Replies command held T a → May (Some command) (code_of a)
 replies-may (Find r names potentials) held T a p = found-may r names potentials T a p
+replies-may (KFind k r names) held T a p = k-found-may k r names T a p
 replies-may (Check answer names) held T a p = examined-may (Some (Check answer names)) (check-may answer names) question.Check held T a p
 replies-may (Replay answer names) held T a p = examined-may (Some (Replay answer names)) (replay-may answer names) question.Replay held T a p
 replies-may (Survey names) held T a p = at (Some (Survey names)) (code_of a) 0 (ap code_of p.is) (2, lit< tt, refl)
@@ -111,6 +120,7 @@ reading-may command stop before after a (inr o) = by-reply o.next
 command-may : (command : Option Command) (before after : Store) (a : Reply) → CommandAnswers command before after a → May command (code_of a)
 command-may None before after a may = at None (code_of a) 2 (ap code_of may) (2, lit< tt, refl)
 command-may (Some (Find r names potentials)) before after a may = reading-may (Find r names potentials) (record { three = (4, lit< tt, refl); five = (6, lit< tt, refl); eleven = (9, lit< tt, refl) }) before after a may
+command-may (Some (KFind k r names)) before after a may = reading-may (KFind k r names) (record { three = (4, lit< tt, refl); five = (6, lit< tt, refl); eleven = (9, lit< tt, refl) }) before after a may
 command-may (Some (Check answer names)) before after a may = reading-may (Check answer names) (record { three = (3, lit< tt, refl); five = (4, lit< tt, refl); eleven = (6, lit< tt, refl) }) before after a may
 command-may (Some (Replay answer names)) before after a may = reading-may (Replay answer names) (record { three = (3, lit< tt, refl); five = (4, lit< tt, refl); eleven = (6, lit< tt, refl) }) before after a may
 command-may (Some (Survey names)) before after a may = reading-may (Survey names) (record { three = (3, lit< tt, refl); five = (4, lit< tt, refl); eleven = (5, lit< tt, refl) }) before after a may

@@ -4,3 +4,4 @@ pub mod Premises
 pub mod Headline
 pub mod Sentences
 pub mod Examining
+pub mod Listing

@@ -18,7 +18,7 @@ use Rattle.circuit_spec.specs.Network.{Topology}
 use Rattle.circuit_spec.specs.Steps.{IsOutcome, Walk}
 use Rattle.nml_inventory.specs.Relations.{IsClassCount}
 use Rattle.command_words.specs.declared.words.Command.{Command}
-use Rattle.command_words.specs.declared.words.Command.TheVariants.{Find, Check, Replay, Survey, Drill}
+use Rattle.command_words.specs.declared.words.Command.TheVariants.{Find, KFind, Check, Replay, Survey, Drill}
 use Rattle.command_words.specs.Words.{Word, Words, command_of}
 use Rattle.replies.specs.declared.reply.Reply.{Reply}
 use Rattle.replies.specs.declared.reply.Status.TheVariants as statuses
@@ -38,6 +38,7 @@ use Rattle.finder_cli.specs.Usage.{usage_line}
 abbrev pub statuses_of : Option Command → List ℕ
 statuses_of None = 2 ∷ []
 statuses_of (Some (Find request files potentials)) = 0 ∷ 1 ∷ 3 ∷ 4 ∷ 5 ∷ 7 ∷ 8 ∷ 11 ∷ []
+statuses_of (Some (KFind k request files)) = 0 ∷ 1 ∷ 3 ∷ 4 ∷ 5 ∷ 7 ∷ 8 ∷ 11 ∷ []
 statuses_of (Some (Check answer files)) = 0 ∷ 3 ∷ 5 ∷ 9 ∷ 11 ∷ []
 statuses_of (Some (Replay answer files)) = 0 ∷ 3 ∷ 5 ∷ 9 ∷ 11 ∷ []
 statuses_of (Some (Survey files)) = 0 ∷ 3 ∷ 5 ∷ 11 ∷ []

@@ -1,6 +1,6 @@
 ghost use Rattle.std.specs.Prelude.{◌≡◌, ◌≢◌, ◌≤◌, ◌∷◌, Contains, IsSome, IfOk, Some};
 ghost use Rattle.io_edges.specs.Counts.{Rose};
-ghost use Rattle.command_words.specs.Words.{HasFewLevels, NamesFewFiles, command_of};
+ghost use Rattle.command_words.specs.Words.{CountsFew, NamesFewFiles, command_of};
 ghost use Rattle.replies.specs.Printed.{PrintsWhole, PrintsFront};
 ghost use Rattle.replies.specs.Status.{code};
 ghost use Rattle.replies.specs.Through.{Gives, IsText};
@@ -9,6 +9,7 @@ ghost use Rattle.finder_cli.specs.Answers.{Answers, CommandAnswers};
 ghost use Rattle.drill_command.specs.Drilling.{IsDrilled};
 ghost use Rattle.finder_cli.specs.Examining.{ChecksDocument, DrillsNetwork, ReplaysRules};
 ghost use Rattle.finder_cli.specs.Headline.{Headline};
+ghost use Rattle.finder_cli.specs.Listing.{ListsWalks};
 ghost use Rattle.finder_cli.specs.Sentences.{CountsFiles, FindsFault, FindsLong, FindsMissing, FindsNone, FindsPast, FindsTooBig, FindsUnknown, FindsUsage, IsNotRead, IsTooLarge, statuses_of};
 ghost use Rattle.finder_cli.specs.Usage.{usage_line};
 
@@ -17,6 +18,7 @@ use command_words::{Command, WordsFault, parse_words};
 use drill_command::drill;
 use find_command::find;
 use io_edges::{Files, Sink};
+use k_find_command::k_find;
 use ml_base::NoMemory;
 use replies::{Reply, Status, Stop, Text, one_line, print};
 use std::alloc::Global;
@@ -50,7 +52,7 @@ fn perform_drill(alloc: Global, levels: u32) -> Result<Reply, Stop>
 
 fn perform<F: Files>(alloc: Global, command: &Command, files: &mut F) -> Result<Reply, Stop>
     requires few { NamesFewFiles command.now }
-    requires levels { HasFewLevels command.now }
+    requires count { CountsFew command.now }
     ensures { Gives result (CommandAnswers (Some command.now) (F.store files.old) (F.store files.new)) }
 {
     match command {
@@ -59,6 +61,11 @@ fn perform<F: Files>(alloc: Global, command: &Command, files: &mut F) -> Result<
             files: names,
             potentials,
         } => find(alloc, request, *potentials, names.as_slice(), files),
+        Command::KFind {
+            k,
+            request,
+            files: names,
+        } => k_find(alloc, request, *k, names.as_slice(), files),
         Command::Check {
             answer,
             files: names,
@@ -103,6 +110,9 @@ pub fn run<F: Files, K: Sink>(alloc: Global, words: &[String], files: &mut F, ou
     // undone by its match and the stack unchanged; no walk of any length or stack depth costs less; the checker accepts the printed
     // potentials; and it prints `none` exactly where no walk exists.
     ensures headline { Headline words.now (F.store files.old) (F.store files.new) result (K.written out.old) (K.written out.new) }
+
+    // 0, 1, 4, 7 and 8, for `k-find`: the text is a list of the cheapest walks of the request, or the line on why it is not known.
+    ensures lists { ListsWalks words.now (F.store files.old) (F.store files.new) result (K.written out.old) (K.written out.new) }
 
     // 0 and 9, for `check` and `replay`: the line tells the verdict on the document, or what its rules do.
     ensures checked { ChecksDocument words.now (F.store files.old) (F.store files.new) result (K.written out.old) (K.written out.new) }

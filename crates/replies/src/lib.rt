@@ -9,5 +9,5 @@ mod reply;
 mod text;
 
 pub use page::Page;
-pub use reply::{Reply, Status, Stop, ended, one_line, print, status_of};
+pub use reply::{Reply, Status, Stop, ended, k_status_of, one_line, print, status_of};
 pub use text::{Text, Texts};

@@ -1,22 +1,25 @@
-// What is printed: lines that are kept, or a document whose lines are made as they are written.
+// What is printed: lines that are kept, or a document or a list whose lines are made as they are written.
 ghost use Rattle.std.specs.Prelude.{◌≡◌, ◌≤◌, OnOk, OnErr};
 ghost use Rattle.std.specs.List.{concat};
 ghost use Rattle.std.specs.Io.KnownBytes.{Appends};
 ghost use Rattle.line_text.specs.Lines.{text_of};
 ghost use Rattle.answer_text.specs.Spelling.{lines_of};
 ghost use Rattle.answer_spec.specs.WellFormed.{IsWellFormed};
+ghost use Rattle.k_text.specs.Listing.{k_lines_of};
 ghost use Rattle.io_edges.specs.Counts.{Rose};
 ghost use Rattle.io_edges.specs.Stores.{AppendsFront};
 
 use crate::text::{Text, Texts};
 use answer_spec::Answer;
 use io_edges::{Failed, Sink, write_all};
+use k_answers::KAnswer;
 use std::marker::Model;
 
 #[derive(Drop)]
 enum Source {
     Kept(Texts),
     Document(Answer),
+    Walks(KAnswer),
 }
 
 /// A text of lines, each of which is printed by a call of its own.
@@ -77,6 +80,15 @@ impl Page {
         }
     }
 
+    /// The list of these cheapest walks.
+    pub fn of_list(answer: KAnswer) -> Page
+        ensures { result ≡ text_of (k_lines_of answer) }
+    {
+        Page {
+            source: Source::Walks(answer),
+        }
+    }
+
     /// Writes the text. It takes no memory.
     pub fn write<K: Sink>(&self, out: &mut K) -> Result<(), Failed>
         ensures ok { OnOk result (Appends (K.written out.old) (K.written out.new) self.now) }
@@ -87,6 +99,7 @@ impl Page {
         match &self.source {
             Source::Kept(lines) => write_lines(out, lines.as_slice()),
             Source::Document(answer) => answer_text::write(answer, out),
+            Source::Walks(answer) => k_text::k_write(answer, out),
         }
     }
 }

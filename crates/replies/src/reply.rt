@@ -3,14 +3,15 @@ ghost use Rattle.std.specs.Io.KnownBytes.{Appends};
 ghost use Rattle.circuit_spec.specs.declared.hops.Outcome.{Outcome};
 ghost use Rattle.io_edges.specs.Counts.{Rose};
 ghost use Rattle.io_edges.specs.Stores.{AppendsFront};
-ghost use Rattle.replies.specs.Status.{code, status_of};
+ghost use Rattle.replies.specs.Status.{code, k_status_of, status_at, status_of};
 ghost use Rattle.replies.specs.Through.{IsStop, IsText};
 
 use crate::page::Page;
 use crate::text::{Text, Texts};
 use circuit_spec::Outcome;
 use io_edges::{Failed, Sink};
-use ml_base::NoMemory;
+use k_answers::KAnswer;
+use ml_base::{KEnd, NoMemory};
 use std::alloc::Global;
 
 /// How a run ends that prints its whole text.
@@ -55,6 +56,27 @@ pub fn status_of(outcome: &Outcome) -> Status
         Outcome::NoWalk => Status::NoWalk,
         Outcome::Past => Status::Past,
         Outcome::Long { .. } => Status::Long,
+    }
+}
+
+fn status_at(end: KEnd) -> Status
+    ensures { result ≡ status_at end }
+{
+    match end {
+        KEnd::Enough => Status::Done,
+        KEnd::NoMore => Status::NoWalk,
+        KEnd::Past => Status::Past,
+        KEnd::Long { .. } => Status::Long,
+    }
+}
+
+/// The status of a list: done where a walk is listed, else by why there is none.
+pub fn k_status_of(answer: &KAnswer) -> Status
+    ensures { result ≡ k_status_of answer.now.walks answer.now.end }
+{
+    match answer.walks.as_slice().split_first() {
+        Some(_) => Status::Done,
+        None => status_at(answer.end),
     }
 }
 

@@ -4,6 +4,7 @@ use Rattle.finder_cli.proofs.Settled.{Answers-one}
 use Rattle.finder_cli.proofs.Sentences.{says-none, says-past, says-long, says-unknown}
 use Rattle.finder_cli.proofs.Headlined.{says-headline}
 use Rattle.finder_cli.proofs.Counted.{says-counts}
+use Rattle.finder_cli.proofs.Listed.{says-lists}
 use Rattle.finder_cli.proofs.Examining.{says-checked, says-drilled, says-replayed}
 use Rattle.finder_cli.proofs.Causes.{says-usage, says-fault, says-not-read, says-too-large}
 use Rattle.finder_cli.proofs.Stopped.{says-missing, says-too-big}
@@ -38,6 +39,10 @@ returns-in-Ok-clause-long g c = says-long c.args.words.now (g.F.Files.store c.ar
 
 pub returns-in-Ok-clause-counts : goal.returns-in-Ok-clause-counts
 returns-in-Ok-clause-counts g c = says-counts c.args.words.now (g.F.Files.store c.args.files.now) (g.F.Files.store c.reply_to.new.files) c.print.result c.in-Ok.reply
+    (g.K.Sink.written c.args.out.now) (g.K.Sink.written c.print.new.out) (λ ran. record { may = c.in-Ok.ensures; code = c.print.ensures.status ran.0 }) c.print.ensures.whole
+
+pub returns-in-Ok-clause-lists : goal.returns-in-Ok-clause-lists
+returns-in-Ok-clause-lists g c = says-lists c.args.words.now (g.F.Files.store c.args.files.now) (g.F.Files.store c.reply_to.new.files) c.print.result c.in-Ok.reply
     (g.K.Sink.written c.args.out.now) (g.K.Sink.written c.print.new.out) (λ ran. record { may = c.in-Ok.ensures; code = c.print.ensures.status ran.0 }) c.print.ensures.whole
 
 pub returns-in-Ok-clause-usage : goal.returns-in-Ok-clause-usage
