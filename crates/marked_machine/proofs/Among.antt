@@ -42,7 +42,7 @@ pub among_range : (n k : ℕ) → IsAmong (range_with_len 0 n) k → k < n
 among_range n k is = omega (arith, among_span 0 n k is)
 
 pub range_among : (n k : ℕ) → k < n → IsAmong (range_with_len 0 n) k
-range_among n k lt = span_among 0 n k k lt refl
+range_among n k lt = span_among 0 n k k lt (omega arith)
 
 -- What a step of the product comes from.
 
@@ -156,3 +156,8 @@ next_below marks k i j a e = below_count marks.count (cell_by marks (slice_get m
 
 pub put_below : (marks : Marks) (i a : ℕ) → put_mark marks i ≡ Some a → a < marks.frame_count
 put_below marks i a e = below_count marks.frame_count (slice_get marks.puts.items i) a e
+
+pub leads_below : (marks : Marks) (kind : MachineKind) (k : StepNo) (t : MachineStep) (i b : ℕ) (f : FrameNo) → Leads kind marks k t i b f → b < marks.count
+leads_below marks Flat k t i b f leads = next_below marks k.0 i 0 b leads.1
+leads_below marks Push k t i b f leads = next_below marks k.0 i 0 b leads.3
+leads_below marks Pop k t i b f leads = next_below marks k.0 i leads.0 b leads.3

@@ -24,7 +24,9 @@ goes_more a b c xs ys p q = record {
 }
 
 range_flat : {A : Type 0} (f : ℕ → List A) (n : ℕ) → flat_map f (range_with_len 0 (n + 1)) ≡ flat_map f (range_with_len 0 n) ++ f n
-range_flat f n = ap (flat_map f) (range_more 0 n) ∙ (flat_map-append f (range_with_len 0 n) (n ∷ []) ∙ ap (λ v. flat_map f (range_with_len 0 n) ++ v) (append-nil (f n)))
+range_flat f n =
+    let same : 0 + n ≡ n = omega arith in
+    ap (flat_map f) (range_more 0 n) ∙ (flat_map-append f (range_with_len 0 n) ((0 + n) ∷ []) ∙ ap (λ v. flat_map f (range_with_len 0 n) ++ v) (append-nil (f (0 + n)) ∙ ap f same))
 
 -- a loop that has come to number `n` comes to the next
 pub goes_round : (f : ℕ → List MarkedStep) (n : ℕ) (a b c : MarkedSteps) → GoesOn a (flat_map f (range_with_len 0 n)) b → GoesOn b (f n) c → GoesOn a (flat_map f (range_with_len 0 (n + 1))) c

@@ -18,14 +18,14 @@ use Rattle.marked_machine.specs.declared.marks.Marks.{Marks}
 use Rattle.marked_machine.specs.Marks.{next_mark, put_mark}
 use Rattle.marked_machine.specs.MarkedRuns.{AreIn, AreMarked, IsMarkedRun, base_of, bases_of, marking}
 use Rattle.marked_machine.specs.Product.{IsProduct, MarkedStep, ProductValue, frame_at, lifted, marked_steps, no_frame, place_of, state_at}
-use Rattle.marked_machine.proofs.Among.{IsFrom, Leads, next_below, put_below, steps_among, steps_from}
+use Rattle.marked_machine.proofs.Among.{IsFrom, Leads, leads_below, next_below, put_below, steps_among, steps_from}
 
 -- Numbers tell their parts.
 
-pub place_base : (count base mark : ℕ) → mark < count → place_of count base mark / count ≡ base
+place_base : (count base mark : ℕ) → mark < count → place_of count base mark / count ≡ base
 place_base count base mark lt = div-mul-add base count mark lt
 
-pub place_mark : (count base mark : ℕ) → mark < count → place_of count base mark % count ≡ mark
+place_mark : (count base mark : ℕ) → mark < count → place_of count base mark % count ≡ mark
 place_mark count base mark lt = mod-mul-add base count mark lt
 
 place_apart : (count b i c j : ℕ) → i < count → j < count → place_of count b i ≡ place_of count c j → (b ≡ c) × (i ≡ j)
@@ -34,10 +34,10 @@ place_apart count b i c j p q e = (
   sym (place_mark count b i p) ∙ (ap (λ v. v % count) e ∙ place_mark count c j q),
 )
 
-state_no : ℕ → StateNo
+abbrev state_no : ℕ → StateNo
 state_no n = record { 0 = n }
 
-frame_no : ℕ → FrameNo
+abbrev frame_no : ℕ → FrameNo
 frame_no n = record { 0 = n }
 
 state_apart : (marks : Marks) (x : StateNo) (i : ℕ) (y : StateNo) (j : ℕ) → i < marks.count → j < marks.count → state_at marks x i ≡ state_at marks y j → (x ≡ y) × (i ≡ j)
@@ -84,7 +84,7 @@ module _ (m : MachineValue) (marks : Marks) where
   abbrev Entry : Type 0
   Entry = Both marks.frame_count
 
-  joint : Entry → FrameNo
+  abbrev joint : Entry → FrameNo
   joint b = frame_at marks b.frame b.mark
 
   base_found : (q : ℕ) (a : MarkedStep) → slice_get all q ≡ Some a → base_of bases q ≡ a.base.0
@@ -105,11 +105,6 @@ module _ (m : MachineValue) (marks : Marks) where
     is_frame : frame ≡ u.frame
     cost : u.cost ≡ base.cost
 
-  leads_below : (kind : MachineKind) (k : StepNo) (t : MachineStep) (i b : ℕ) (f : FrameNo) → Leads kind marks k t i b f → b < marks.count
-  leads_below Flat k t i b f leads = next_below marks k.0 i 0 b leads.1
-  leads_below Push k t i b f leads = next_below marks k.0 i 0 b leads.3
-  leads_below Pop k t i b f leads = next_below marks k.0 i leads.0 b leads.3
-
   comes : (q : ℕ) (x : StateNo) (i : ℕ) (u : MachineStep) → i < marks.count → slice_get steps q ≡ Some u → u.from ≡ state_at marks x i → Comes q x i u
   comes q x i u lt found leaves =
       let a = mapped_some (λ (v : MarkedStep). v.step) (slice_get all q) u (sym (slice_get-map (λ (v : MarkedStep). v.step) all q) ∙ found) in
@@ -125,7 +120,7 @@ module _ (m : MachineValue) (marks : Marks) where
         leaves = apart.0;
         leads = subst (λ n. Leads from.base.kind marks (record { 0 = n }) from.base i from.after from.frame) number
             (subst (λ n. Leads from.base.kind marks a.0.base from.base n from.after from.frame) apart.1 from.leads);
-        below = leads_below from.base.kind a.0.base from.base from.mark from.after from.frame from.leads;
+        below = leads_below marks from.base.kind a.0.base from.base from.mark from.after from.frame from.leads;
         is_kind = ap (λ v. v.kind) same;
         enters = ap (λ v. v.to) same;
         is_frame = ap (λ v. v.frame) same;
@@ -419,7 +414,7 @@ module _ (m : MachineValue) (marks : Marks) where
   length_bases [] = refl
   length_bases (p ∷ ps) = ap suc (length_bases ps)
 
-  made : ProductValue → ProductValue
+  abbrev made : ProductValue → ProductValue
   made p = record { machine = record { states = p.machine.states; frames = p.machine.frames; steps = steps }; bases = bases; count = p.count }
 
   pub are_marked : (p : ProductValue) → IsProduct m marks p → AreMarked m marks p

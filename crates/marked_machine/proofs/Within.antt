@@ -1,7 +1,7 @@
 -- The numbers of a product's steps are below the product's.
 use Rattle.std.proofs.Common.{◌≡◌, ◌≢◌, ℕ, ◌+◌, ◌*◌, ◌<◌, List, length, map, refl, sym, ◌∙◌, ap, subst, arith, Some, Option, slice_get, Contains}
 use Rattle.std.specs.List.{All}
-use Rattle.std.proofs.Math.Nat.{mul-comm}
+use Rattle.std.proofs.Math.Nat.{mul_comm}
 use Rattle.std.proofs.lemmas.Nat.{mul-add-lt}
 use Rattle.std.proofs.lemmas.List.Elements.{All-weaker, All-contains, All-contains_itself}
 use Rattle.std.proofs.lemmas.Option.{slice_get-map}
@@ -14,22 +14,17 @@ use Rattle.adapt_machine.specs.declared.MachineKind.{MachineKind}
 use Rattle.adapt_machine.specs.declared.MachineKind.TheVariants.{Flat, Push, Pop}
 use Rattle.marked_machine.specs.declared.marks.Marks.{Marks}
 use Rattle.marked_machine.specs.Product.{MarkedStep, marked_steps, lifted, place_of}
-use Rattle.marked_machine.proofs.Among.{IsFrom, Leads, next_below, put_below, steps_from}
+use Rattle.marked_machine.proofs.Among.{IsFrom, Leads, leads_below, put_below, steps_from}
 
-place_within : (count base mark bases : ℕ) → base < bases → mark < count → place_of count base mark < bases * count
-place_within count base mark bases p q = subst (λ n. place_of count base mark < n) (mul-comm count bases) (mul-add-lt base count mark bases p q)
-
-leads_below : (marks : Marks) (kind : MachineKind) (k : StepNo) (t : MachineStep) (i b : ℕ) (f : FrameNo) → Leads kind marks k t i b f → b < marks.count
-leads_below marks Flat k t i b f leads = next_below marks k.0 i 0 b leads.1
-leads_below marks Push k t i b f leads = next_below marks k.0 i 0 b leads.3
-leads_below marks Pop k t i b f leads = next_below marks k.0 i leads.0 b leads.3
+pub place_within : (count base mark bases : ℕ) → base < bases → mark < count → place_of count base mark < bases * count
+place_within count base mark bases p q = subst (λ n. place_of count base mark < n) (mul_comm count bases) (mul-add-lt base count mark bases p q)
 
 frame_within : (marks : Marks) (frames : ℕ) (kind : MachineKind) (k : StepNo) (t : MachineStep) (i b : ℕ) (f : FrameNo) → t.frame.0 < frames → kind ≢ Flat → Leads kind marks k t i b f
     → f.0 < frames * marks.frame_count
-frame_within marks frames Flat k t i b f lt no leads = absurd (no refl)
-frame_within marks frames Push k t i b f lt no leads =
+frame_within marks frames Flat k t i b f lt differs leads = absurd (differs refl)
+frame_within marks frames Push k t i b f lt differs leads =
     subst (λ (v : FrameNo). v.0 < frames * marks.frame_count) (sym leads.2) (place_within marks.frame_count t.frame.0 leads.0 frames lt (put_below marks i leads.0 leads.1))
-frame_within marks frames Pop k t i b f lt no leads =
+frame_within marks frames Pop k t i b f lt differs leads =
     subst (λ (v : FrameNo). v.0 < frames * marks.frame_count) (sym leads.2) (place_within marks.frame_count t.frame.0 leads.0 frames lt leads.1)
 
 module _ (m : MachineValue) (marks : Marks) (within : All (IsStepWithin m.states m.frames) m.steps) where
@@ -42,7 +37,7 @@ module _ (m : MachineValue) (marks : Marks) (within : All (IsStepWithin m.states
       let here : Within (lifted marks is.base is.frame is.mark is.after) = record {
         from = place_within marks.count is.base.from.0 is.mark m.states base.from is.below;
         to = place_within marks.count is.base.to.0 is.after m.states base.to (leads_below marks is.base.kind a.base is.base is.mark is.after is.frame is.leads);
-        frame = λ no. frame_within marks m.frames is.base.kind a.base is.base is.mark is.after is.frame (base.frame no) no is.leads;
+        frame = λ differs. frame_within marks m.frames is.base.kind a.base is.base is.mark is.after is.frame (base.frame differs) differs is.leads;
       } in
       subst Within (sym is.is) here
 

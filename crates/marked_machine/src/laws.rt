@@ -1,4 +1,4 @@
-ghost use Rattle.std.specs.Prelude.{◌≡◌, ◌<◌, ◌/◌, ◌%◌, ℕ};
+ghost use Rattle.std.specs.Prelude.{◌≡◌, ◌<◌, ◌*◌, ◌/◌, ◌%◌, ℕ};
 ghost use Rattle.adapt_machine.specs.Machine.{MachineValue};
 ghost use Rattle.marked_machine.specs.declared.marks.Marks.{Marks as MarksValue};
 ghost use Rattle.marked_machine.specs.MarkedRuns.{AreIn, AreMarked};
@@ -19,4 +19,9 @@ pub fn marked_runs_are_in_product()
 pub fn numbers_are_apart()
     ensures base { (count base mark : ℕ) → mark < count → place_of count base mark / count ≡ base }
     ensures mark { (count base mark : ℕ) → mark < count → place_of count base mark % count ≡ mark }
+{}
+
+/// The number of a state of the machine and a mark is below the number of the product's states.
+pub fn numbers_are_within()
+    ensures { (count base mark bases : ℕ) → base < bases → mark < count → place_of count base mark < bases * count }
 {}

@@ -20,6 +20,8 @@ mod steps;
 #[cfg(test)]
 mod tests;
 
-pub use laws::{marked_runs_are_in_product, numbers_are_apart, product_runs_are_marked};
+pub use laws::{
+    marked_runs_are_in_product, numbers_are_apart, numbers_are_within, product_runs_are_marked,
+};
 pub use made::Product;
 pub use marks::Marks;

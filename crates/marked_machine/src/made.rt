@@ -1,4 +1,5 @@
 ghost use Rattle.std.specs.Prelude.{◌≡◌, ◌<◌, ◌*◌, ◌/◌, ◌%◌, IfOk, length, slice_get, Some};
+ghost use Rattle.marked_machine.specs.MarkedRuns.{base_of};
 ghost use Rattle.marked_machine.specs.Product.{place_of, IsProduct};
 
 use crate::building::make_steps;
@@ -92,7 +93,8 @@ impl Product {
     /// The step of the machine that a step of the product comes from.
     pub fn base_step(&self, step: StepNo) -> StepNo
         requires { step.0 < length self.now.machine.steps }
-        ensures { slice_get self.now.bases step.0 ≡ Some result }
+        ensures found { slice_get self.now.bases step.0 ≡ Some result }
+        ensures is_base { result.0 ≡ base_of self.now.bases step.0 }
     {
         self.bases[step.0 as usize]
     }

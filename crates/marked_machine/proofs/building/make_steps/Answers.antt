@@ -24,4 +24,4 @@ returns-clause-within c =
     let done : AreMade (marked_steps c.args.marks.now c.args.machine.now.steps) c.loop-number.steps =
     made_done (λ k. steps_of c.args.marks.now k (slice_get c.args.machine.now.steps k)) c.loop-number.number (length c.args.machine.now.steps) c.loop-number.steps (omega arith) c.loop-number.invariant in
     subst (All (IsStepWithin (c.args.machine.now.states * c.args.marks.now.count) (c.args.machine.now.frames * c.args.marks.now.frame_count))) (sym done.steps)
-    (all_within c.args.machine.now c.args.marks.now c.steps.ensures.within)
+    (all_within c.args.machine.now c.args.marks.now c.steps-number-end.ensures.within)
