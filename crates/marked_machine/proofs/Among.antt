@@ -1,10 +1,10 @@
 -- Which steps a product has.
-use Rattle.std.proofs.Common.{◌≡◌, ◌⊎◌, ℕ, zero, suc, ◌+◌, ◌*◌, ◌<◌, List, [], ◌∷◌, ◌++◌, length, refl, sym, ◌∙◌, ap, subst, inl, inr, arith, Some, None, Option, slice_get}
+use Rattle.std.proofs.Common.{◌≡◌, ℕ, zero, suc, ◌+◌, ◌*◌, ◌<◌, List, [], ◌∷◌, length, refl, sym, ap, subst, inl, inr, arith, Some, None, Option, slice_get}
 use Rattle.std.specs.List.{flat_map, range_with_len}
 use Rattle.std.proofs.lemmas.Option.{slice_get_within}
 use Rattle.std.proofs.lemmas.Grind.{common_steps}
 use Rattle.ml_base.specs.Lists.{IsAmong}
-use Rattle.ml_base.proofs.Lists.{among_left, among_right, among_cases, one_of_some}
+use Rattle.ml_base.proofs.Lists.{among_left, among_right, among_cases}
 use Rattle.ml_base.specs.declared.numbers.FrameNo.{FrameNo}
 use Rattle.ml_base.specs.declared.numbers.StepNo.{StepNo}
 use Rattle.adapt_machine.specs.declared.MachineStep.{MachineStep}

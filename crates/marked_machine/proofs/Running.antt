@@ -1,14 +1,12 @@
 -- Runs of a product and marked runs of its machine, step by step.
-use Rattle.std.proofs.Common.{◌≡◌, ◌⊎◌, ℕ, zero, suc, ◌+◌, ◌*◌, ◌/◌, ◌%◌, ◌<◌, List, [], ◌∷◌, ◌++◌, length, map, refl, sym, ◌∙◌, ap, subst, inl, inr, arith, Some, None, Option, slice_get, option_map}
-use Rattle.std.specs.Prelude.{slice_index_or}
+use Rattle.std.proofs.Common.{◌≡◌, ℕ, suc, ◌/◌, ◌%◌, ◌<◌, List, [], ◌∷◌, length, map, refl, sym, ◌∙◌, ap, subst, inl, inr, arith, Some, slice_get, option_map}
 use Rattle.std.proofs.lemmas.Nat.{div-mul-add, mod-mul-add}
 use Rattle.std.proofs.lemmas.Option.{slice_get-map, get_or_from_slice_get}
-use Rattle.ml_base.specs.Weight.{FullWeight}
 use Rattle.ml_base.proofs.Lists.{among_place, mapped_some, one_of_some, place_among}
 use Rattle.ml_base.specs.declared.numbers.StateNo.{StateNo}
 use Rattle.ml_base.specs.declared.numbers.FrameNo.{FrameNo}
 use Rattle.ml_base.specs.declared.numbers.StepNo.{StepNo}
-use Rattle.walk_grammar.specs.System.{System, Goes, Run, cost_of}
+use Rattle.walk_grammar.specs.System.{Goes, Run, cost_of}
 use Rattle.adapt_machine.specs.Machine.{MachineValue}
 use Rattle.adapt_machine.specs.Walks.{IsStep, cost_found, system_of, full_weight_of}
 use Rattle.adapt_machine.specs.declared.MachineStep.{MachineStep}
@@ -16,7 +14,7 @@ use Rattle.adapt_machine.specs.declared.MachineKind.{MachineKind}
 use Rattle.adapt_machine.specs.declared.MachineKind.TheVariants.{Flat, Push, Pop}
 use Rattle.marked_machine.specs.declared.marks.Marks.{Marks}
 use Rattle.marked_machine.specs.Marks.{next_mark, put_mark}
-use Rattle.marked_machine.specs.MarkedRuns.{AreIn, AreMarked, IsMarkedRun, base_of, bases_of, marking}
+use Rattle.marked_machine.specs.MarkedRuns.{AreIn, AreMarked, base_of, marking}
 use Rattle.marked_machine.specs.Product.{IsProduct, MarkedStep, ProductValue, frame_at, lifted, marked_steps, no_frame, place_of, state_at}
 use Rattle.marked_machine.proofs.Among.{IsFrom, Leads, leads_below, next_below, put_below, steps_among, steps_from}
 
@@ -391,7 +389,7 @@ module _ (m : MachineValue) (marks : Marks) where
   run_up (k ∷ ks) x i both y u b js lt run marked =
       let w = up_step x i both k run.0 run.1 marked.0 marked.1 lt run.2 marked.2 in
       let rest = run_up ks run.0 marked.0 w.left y u b js w.below (subst (λ v. Run (system_of m.steps) run.0 v ks y u) w.is_frames run.3)
-          (subst (λ v. Run (marking marks m.steps) marked.0 v ks b js) w.is_marks marked.3) in
+      (subst (λ v. Run (marking marks m.steps) marked.0 v ks b js) w.is_marks marked.3) in
       record {
         numbers = w.number ∷ rest.numbers;
         left = rest.left;

@@ -1,5 +1,5 @@
 -- The numbers of a product's steps are below the product's.
-use Rattle.std.proofs.Common.{◌≡◌, ◌≢◌, ℕ, ◌+◌, ◌*◌, ◌<◌, List, length, map, refl, sym, ◌∙◌, ap, subst, arith, Some, Option, slice_get, Contains}
+use Rattle.std.proofs.Common.{◌≢◌, ℕ, ◌*◌, ◌<◌, map, refl, sym, ◌∙◌, subst, slice_get, Contains}
 use Rattle.std.specs.List.{All}
 use Rattle.std.proofs.Math.Nat.{mul_comm}
 use Rattle.std.proofs.lemmas.Nat.{mul-add-lt}

@@ -10,7 +10,7 @@ use Rattle.adapt_machine.specs.Walks.{system_of, full_weight_of}
 use Rattle.walk_grammar.specs.System.{System, Run}
 use Rattle.marked_machine.specs.declared.marks.Marks.{Marks}
 use Rattle.marked_machine.specs.Marks.{next_mark, put_mark}
-use Rattle.marked_machine.specs.Product.{ProductValue, IsProduct, state_at}
+use Rattle.marked_machine.specs.Product.{ProductValue, state_at}
 
 -- step number `k` is of the kind
 abbrev pub IsOfKind : List MachineStep → ℕ → MachineKind → Type 0

@@ -150,11 +150,7 @@ fn add_step(
 }
 
 /// The steps of the product of a machine with a rule.
-pub fn make_steps(
-    alloc: Global,
-    machine: &Machine,
-    marks: &Marks,
-) -> Result<MarkedSteps, NoMemory>
+pub fn make_steps(alloc: Global, machine: &Machine, marks: &Marks) -> Result<MarkedSteps, NoMemory>
     requires room { HasRoom machine.now marks.now }
     ensures steps { IfOk result (λ made. made.steps.items ≡ map (λ a. a.step) (marked_steps marks.now machine.now.steps)) }
     ensures bases { IfOk result (λ made. made.bases.items ≡ map (λ a. a.base) (marked_steps marks.now machine.now.steps)) }

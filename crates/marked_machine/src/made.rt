@@ -27,8 +27,8 @@ impl Model for Product {
     ghost view = { λ p. record { machine = p.machine; bases = p.bases.items; count = p.count } };
 
     ghost invariant = { λ p. record {
-        bases : length p.bases.items ≡ length p.machine.steps;
-        states : p.count ≡ 0 → p.machine.states ≡ 0;
+      bases : length p.bases.items ≡ length p.machine.steps;
+      states : p.count ≡ 0 → p.machine.states ≡ 0;
     } };
 }
 

@@ -40,30 +40,31 @@ fn step(kind: MachineKind, from: u64, to: u64, frame: u64, cost: u64) -> Machine
     }
 }
 
+/// Whether the product has this step at this place, from the step of the machine.
+fn has(product: &Product, place: u64, base: u64, step: MachineStep) -> bool {
+    if place >= product.machine().steps() {
+        return false;
+    }
+    product.base_step(StepNo(place)) == StepNo(base)
+        && product.machine().step(StepNo(place)) == step
+}
+
 #[test]
 fn the_steps_of_a_product(rt: HostRuntime) -> Result<(), NoMemory> {
     let machine = machine(rt.alloc())?;
     let marks = marks(rt.alloc())?;
     let product = Product::new(rt.alloc(), &machine, &marks)?;
-    let rows = [
-        (0, step(MachineKind::Push, 0, 2, 0, 2)),
-        (0, step(MachineKind::Push, 1, 3, 1, 2)),
-        (1, step(MachineKind::Flat, 2, 5, 0, 3)),
-        (2, step(MachineKind::Pop, 4, 6, 0, 5)),
-        (2, step(MachineKind::Pop, 4, 7, 1, 5)),
-        (2, step(MachineKind::Pop, 5, 6, 0, 5)),
-        (2, step(MachineKind::Pop, 5, 7, 1, 5)),
-        (3, step(MachineKind::Flat, 6, 6, 0, 7)),
-    ];
-    assert_eq!(rt; (product.machine().states(), product.machine().frames()), (8, 2));
+    assert!(rt; has(&product, 0, 0, step(MachineKind::Push, 0, 2, 0, 2)));
+    assert!(rt; has(&product, 1, 0, step(MachineKind::Push, 1, 3, 1, 2)));
+    assert!(rt; has(&product, 2, 1, step(MachineKind::Flat, 2, 5, 0, 3)));
+    assert!(rt; has(&product, 3, 2, step(MachineKind::Pop, 4, 6, 0, 5)));
+    assert!(rt; has(&product, 4, 2, step(MachineKind::Pop, 4, 7, 1, 5)));
+    assert!(rt; has(&product, 5, 2, step(MachineKind::Pop, 5, 6, 0, 5)));
+    assert!(rt; has(&product, 6, 2, step(MachineKind::Pop, 5, 7, 1, 5)));
+    assert!(rt; has(&product, 7, 3, step(MachineKind::Flat, 6, 6, 0, 7)));
     assert_eq!(rt; product.machine().steps(), 8);
-    for place in 0..8 {
-        let number = StepNo(place as u64);
-        if number.0 < product.machine().steps() {
-            assert_eq!(rt; product.base_step(number), StepNo(rows[place].0));
-            assert_eq!(rt; product.machine().step(number), rows[place].1);
-        }
-    }
+    assert_eq!(rt; product.machine().states(), 8);
+    assert_eq!(rt; product.machine().frames(), 2);
     Ok(())
 }
 
@@ -72,9 +73,9 @@ fn the_parts_of_a_state(rt: HostRuntime) -> Result<(), NoMemory> {
     let machine = machine(rt.alloc())?;
     let marks = marks(rt.alloc())?;
     let product = Product::new(rt.alloc(), &machine, &marks)?;
-    if product.machine().states() > 7 {
-        assert_eq!(rt; product.base_state(StateNo(7)), StateNo(3));
-        assert_eq!(rt; product.mark(StateNo(7)), 1);
-    }
+    assert_eq!(rt; product.machine().states(), 8);
+    assert_eq!(rt; product.base_state(StateNo(7)), StateNo(3));
+    assert_eq!(rt; product.mark(StateNo(7)), 1);
+    assert_eq!(rt; product.state(StateNo(3), 1), StateNo(7));
     Ok(())
 }

@@ -1,4 +1,4 @@
-use Rattle.std.proofs.Common.{arith, ◌≡◌}
+use Rattle.std.proofs.Common.{arith}
 use Rattle.marked_machine.specs.Product.{pop_at}
 use Rattle.marked_machine.proofs.GoingOn.{goes_none, goes_round, goes_done}
 use Rattle.marked_machine.proofs.building.add_pops.Goals as goal

@@ -1,4 +1,4 @@
-use Rattle.std.proofs.Common.{arith, ◌≡◌, subst, sym}
+use Rattle.std.proofs.Common.{arith, subst, sym}
 use Rattle.marked_machine.specs.Product.{steps_at, steps_of, GoesOn}
 use Rattle.marked_machine.proofs.GoingOn.{goes_none, goes_round, goes_done}
 use Rattle.marked_machine.proofs.building.add_step.Goals as goal

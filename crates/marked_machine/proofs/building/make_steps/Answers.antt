@@ -1,7 +1,7 @@
-use Rattle.std.proofs.Common.{arith, ◌≡◌, ◌*◌, ℕ, List, subst, sym, length, slice_get}
+use Rattle.std.proofs.Common.{arith, ◌*◌, subst, sym, length, slice_get}
 use Rattle.std.specs.List.{All}
 use Rattle.adapt_machine.specs.Machine.{IsStepWithin}
-use Rattle.marked_machine.specs.Product.{MarkedStep, marked_steps, steps_of}
+use Rattle.marked_machine.specs.Product.{marked_steps, steps_of}
 use Rattle.marked_machine.proofs.GoingOn.{AreMade, made_round, made_done}
 use Rattle.marked_machine.proofs.Within.{all_within}
 use Rattle.marked_machine.proofs.building.make_steps.Goals as goal
