@@ -53,7 +53,8 @@ fn add_push(
     requires room { HasRoom machine.now marks.now }
     requires site { IsSite machine.now marks.now site }
     requires push { site.step.kind ≡ Push }
-    ensures { IfOk result (λ _. GoesOn steps.old (with_put marks.now site.number site.step site.mark (put_mark marks.now site.mark)) steps.new) }
+    ensures { IfOk result (λ _. GoesOn steps.old
+        (with_put marks.now site.number site.step site.mark (put_mark marks.now site.mark)) steps.new) }
 {
     let Some(put) = marks.put(site.mark) else {
         return Ok(());
@@ -154,7 +155,8 @@ pub fn make_steps(alloc: Global, machine: &Machine, marks: &Marks) -> Result<Mar
     requires room { HasRoom machine.now marks.now }
     ensures steps { IfOk result (λ made. made.steps.items ≡ map (λ a. a.step) (marked_steps marks.now machine.now.steps)) }
     ensures bases { IfOk result (λ made. made.bases.items ≡ map (λ a. a.base) (marked_steps marks.now machine.now.steps)) }
-    ensures within { IfOk result (λ made. All (IsStepWithin (machine.now.states * marks.now.count) (machine.now.frames * marks.now.frame_count)) made.steps.items) }
+    ensures within { IfOk result (λ made. All
+        (IsStepWithin (machine.now.states * marks.now.count) (machine.now.frames * marks.now.frame_count)) made.steps.items) }
 {
     let mut steps = MarkedSteps::new(alloc);
     for number in 0..machine.steps() {
