@@ -25,7 +25,7 @@ PICTURE = TOP / "docs" / "crates.svg"
 # The layers from the bottom, each with its crates. A new crate goes into the lowest layer that has all that its subject needs.
 LAYERS = {
     "base": "ml_base walk_grammar walk_derivations io_edges label_sets label_atoms alias_merge keyed_hash",
-    "machine": "adapt_machine segment_grammar pair_check root_order deriv_arena knuth_search k_cheapest route_unfold repeat_flags machine_bench",
+    "machine": "adapt_machine marked_machine segment_grammar pair_check root_order deriv_arena knuth_search k_cheapest route_unfold repeat_flags machine_bench",
     "network": "nml_elements circuit_spec place_names device_rules topo_gen nml_inventory kept_table layer_check open_places"
                " packet_replay machine_build machine_lift table_replay",
     "meaning": "answer_spec k_answers potential_lift finder_core k_solver",

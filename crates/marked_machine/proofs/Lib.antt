@@ -1,0 +1,4 @@
+pub mod Among
+pub mod GoingOn
+pub mod Running
+pub mod Within

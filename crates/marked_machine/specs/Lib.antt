@@ -1,0 +1,4 @@
+pub mod Marks
+pub mod Product
+pub mod MarkedRuns
+pub mod Sites
