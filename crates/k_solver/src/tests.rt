@@ -6,7 +6,7 @@ use circuit_spec::Request;
 use finder_core::SolveFault;
 use k_answers::KAnswer;
 use layer_check::check;
-use ml_base::{Id, KEnd, Weight, Wish};
+use ml_base::{Id, KEnd, Wish};
 use nml_elements::{DomainList, read_domain};
 use nml_inventory::{Inventory, merge};
 use std::alloc::Global;
@@ -35,6 +35,7 @@ fn inventory_of(alloc: Global, text: &str) -> Result<Inventory, Fail>
     Ok(inventory)
 }
 
+/// A request from a port to a port, with any labels.
 fn request_of(alloc: Global, from: &str, to: &str) -> Result<Request, Fail> {
     Ok(Request {
         from: Id::new(alloc, from)?,
@@ -44,51 +45,44 @@ fn request_of(alloc: Global, from: &str, to: &str) -> Result<Request, Fail> {
     })
 }
 
-/// Whether the walks are over these links, with these weights.
-fn lists(answer: &KAnswer, walks: &[(u64, &[&str])]) -> bool {
-    if answer.walks.len() != walks.len() as u64 {
-        return false;
-    }
-    for (walk, (cost, links)) in answer.walks.as_slice().iter().zip(walks) {
-        let hops = links.len() as u64;
-        if walk.weight != (Weight::Known { cost: *cost, hops }) || walk.hops.len() != hops {
-            return false;
+/// The links of each walk.
+fn links_of(alloc: Global, answer: &KAnswer) -> Result<String, Fail> {
+    let mut text = String::new(alloc);
+    for walk in answer.walks.as_slice() {
+        for hop in walk.hops.as_slice() {
+            text.push_str(hop.element.text())?;
+            text.push_str(" ")?;
         }
-        for (hop, link) in walk.hops.as_slice().iter().zip(*links) {
-            if hop.element.text() != *link {
-                return false;
-            }
-        }
+        text.push_str(";")?;
     }
-    true
+    Ok(text)
+}
+
+/// Whether the port q is refused.
+fn refuses_q(alloc: Global, inventory: &Inventory) -> Result<bool, Fail>
+    requires { IsSound inventory.now }
+{
+    let request = request_of(alloc, "a", "q")?;
+    match k_solve(alloc, inventory, &request, 1) {
+        Err(SolveFault::UnknownPort { id }) => Ok(id.text() == "q"),
+        _ => Ok(false),
+    }
 }
 
 #[test]
 fn walks_of_requests(rt: HostRuntime) -> Result<(), Fail> {
     let alloc = rt.alloc();
-    let dear: &[(u64, &[&str])] = &[(2, &["l2"]), (3, &["l1"])];
-    let round: &[(u64, &[&str])] = &[(0, &["l1", "l3"]), (0, &["l1", "l2", "l1", "l3"])];
-    for (text, to, k, walks, end) in [
-        (TWO, "b", 3, dear, KEnd::NoMore),
-        (ZERO, "c", 2, round, KEnd::Enough),
-        (BIG, "c", 2, &[], KEnd::Past),
+    for (text, to, k, links, end) in [
+        (TWO, "b", 3, "l2 ;l1 ;", KEnd::NoMore),
+        (ZERO, "c", 2, "l1 l3 ;l1 l2 l1 l3 ;", KEnd::Enough),
+        (BIG, "c", 2, "", KEnd::Past),
     ] {
         let inventory = inventory_of(alloc, text)?;
-        let answer = k_solve(alloc, &inventory, &request_of(alloc, "a", to)?, k)?;
-        assert!(rt; lists(&answer, walks));
-        assert!(rt; answer.end == end);
+        let request = request_of(alloc, "a", to)?;
+        let answer = k_solve(alloc, &inventory, &request, k)?;
+        assert_eq!(rt; links_of(alloc, &answer)?.as_str(), links);
+        assert_eq!(rt; answer.end, end);
+        assert!(rt; refuses_q(alloc, &inventory)?);
     }
-    Ok(())
-}
-
-#[test]
-fn unknown_ends(rt: HostRuntime) -> Result<(), Fail> {
-    let alloc = rt.alloc();
-    let inventory = inventory_of(alloc, TWO)?;
-    let refused = match k_solve(alloc, &inventory, &request_of(alloc, "a", "q")?, 1) {
-        Err(SolveFault::UnknownPort { id }) => id.text() == "q",
-        _ => false,
-    };
-    assert!(rt; refused);
     Ok(())
 }
