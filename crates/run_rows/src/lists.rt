@@ -26,7 +26,11 @@ fn cheapest_lists(rt: HostRuntime) -> Result<(), Fail> {
             1,
             "circuits 1\nrequest b any a any\nmore none\nend\n",
         ),
-        ("k-find 2 a any q any one.json", 4, "request unknown-port q\n"),
+        (
+            "k-find 2 a any q any one.json",
+            4,
+            "request unknown-port q\n",
+        ),
     ];
     assert_eq!(rt; first_that_differs(alloc, &rows)?, None);
     Ok(())
