@@ -1,7 +1,6 @@
 -- A list of the cheapest walks tells the outcome: by its first walk, or by its end where none is listed.
-use Rattle.std.proofs.Common.{◌≡◌, ◌<◌, ◌≤◌, ◌^◌, ◌⊎◌, inl, inr, ℕ, zero, suc, List, [], ◌∷◌, Option, None, Some, length, refl, sym, ◌∙◌, ap, subst, min, arith}
+use Rattle.std.proofs.Common.{◌≡◌, ◌<◌, ◌≤◌, ◌^◌, ◌⊎◌, inl, inr, ℕ, zero, suc, List, [], ◌∷◌, Some, refl, sym, ◌∙◌, ap, subst, arith}
 use Rattle.std.specs.Prelude.{Contains, slice_get}
-use Rattle.std.specs.List.{All}
 use Rattle.std.proofs.lemmas.Bool.{cases_lt}
 use Rattle.std.proofs.lemmas.Grind.{common_steps}
 use Rattle.std.proofs.lemmas.List.Elements.{All-contains_itself, All-weaker}
@@ -10,7 +9,7 @@ use Rattle.ml_base.specs.declared.ends.KEnd.TheVariants.{Enough, NoMore, Past, L
 use Rattle.ml_base.specs.declared.weight.Weight.{Weight}
 use Rattle.ml_base.specs.declared.weight.Weight.TheVariants as weight
 use Rattle.ml_base.specs.Weight.{FullWeight, IsAtMost, IsCappedAtMost, cap}
-use Rattle.ml_base.proofs.Lists.{among_contains, contains_among, one_of_some, place_among, same_at}
+use Rattle.ml_base.proofs.Lists.{among_contains, one_of_some, place_among}
 use Rattle.circuit_spec.specs.declared.hops.Hop.{Hop}
 use Rattle.circuit_spec.specs.declared.hops.Outcome.{Outcome}
 use Rattle.circuit_spec.specs.declared.hops.Outcome.TheVariants as outcome
@@ -27,7 +26,7 @@ use Rattle.circuit_spec.proofs.KeptWalks.{kept_outcome}
 use Rattle.k_answers.specs.declared.answer.KAnswer.{KAnswer}
 use Rattle.k_answers.specs.declared.answer.KHops.{KHops}
 use Rattle.k_answers.specs.KAnswers.{IsKAnswer, IsKFormed, IsKnownWeight}
-use Rattle.k_answers.specs.KLists.{IsKList, IsListable, IsListed, IsOther, outcome_found, outcome_told}
+use Rattle.k_answers.specs.KLists.{IsKList, IsListed, IsOther, outcome_found, outcome_told}
 
 -- Weights
 
@@ -54,7 +53,7 @@ at_most_or_not a b = by_cost (cases_lt a.cost b.cost)
     by_cost (inl cheaper) = inl (inl cheaper)
     by_cost (inr le) = not_less le (cases_lt b.cost a.cost)
 
-few_known : (w : FullWeight) → w.cost < 2 ^ 64 → w.hops ≤ HOP_LIMIT → cap w ≡ weight.Known w.cost w.hops
+pub few_known : (w : FullWeight) → w.cost < 2 ^ 64 → w.hops ≤ HOP_LIMIT → cap w ≡ weight.Known w.cost w.hops
 few_known w cost hops = grind (arith, common_steps)
 
 costly_past : (w : FullWeight) → 2 ^ 64 ≤ w.cost → cap w ≡ weight.Past
