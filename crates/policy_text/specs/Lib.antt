@@ -1,0 +1,4 @@
+pub mod States
+pub mod Text
+pub mod Reading
+pub mod Seen
