@@ -3,7 +3,7 @@
 //! Contracts see them as a list in the order of the ids (`Numbers`). Ids may be chosen by anyone: an ordered map has no bad ones.
 #![tactic(auto)]
 
-ghost use Rattle.std.specs.Prelude.{◌≡◌, [], None, OnOk, Some, if◌then◌else◌};
+ghost use Rattle.std.specs.Prelude.{◌≡◌, [], OnOk, Some, if◌then◌else◌, length};
 ghost use Rattle.std.specs.BTreeMap.{is_at};
 ghost use Rattle.line_text.specs.Cursor.{Gives};
 ghost use Rattle.line_text.specs.Fields.{Word};
@@ -51,6 +51,13 @@ impl IdNumbers {
             Ok(_) => Ok(()),
             Err(_) => Err(Refused::NoMemory),
         }
+    }
+
+    /// How many ids have numbers.
+    pub fn len(&self) -> u64
+        ensures { result ≡ length self.now }
+    {
+        self.numbers.len() as u64
     }
 
     /// The number of an id, if it has one. It takes no memory.

@@ -7,7 +7,7 @@ use Rattle.line_fault.specs.Answering.{said_by}
 use Rattle.policy_text.specs.declared.line.PolicyLine.{PolicyLine}
 use Rattle.policy_text.specs.declared.line.PolicyLine.TheVariants.{Declared, Move, Otherwise}
 use Rattle.policy_text.specs.declared.state.State.{State}
-use Rattle.policy_text.specs.Text.{Part, States, Moves, heading, ending, told}
+use Rattle.policy_text.specs.Text.{heading, ending, told}
 
 -- ---- one line
 
@@ -35,21 +35,25 @@ line_in (word ∷ words) = if bytes_eq word (codes "state") then state_in words 
 -- what stands before a line
 pub data At : Type 0 where
   Start : At
-  In : Part → List State → At
+  In : List State → At
   Ended : List State → At
 
-abbrev pub noted : Part → List State → Option PolicyLine → Option At
-noted part states None = None
-noted part states (Some line) = option_map (λ next. In next.0 next.1) (told part states line)
+abbrev pub noted : List State → Option PolicyLine → Option At
+noted states None = None
+noted states (Some line) = option_map In (told states line)
+
+-- a policy has a state at least
+abbrev pub ended : List State → Option At
+ended states = kept_if (nat_lt 0 (length states)) (Ended states)
 
 abbrev pub policy_step : At → Line → Option At
-policy_step Start line = kept_if (bytes_eq line heading) (In States [])
-policy_step (In part states) line = if bytes_eq line ending then kept_if (nat_lt 0 (length states)) (Ended states) else noted part states (line_in (words_in line))
+policy_step Start line = kept_if (bytes_eq line heading) (In [])
+policy_step (In states) line = if bytes_eq line ending then ended states else noted states (line_in (words_in line))
 policy_step (Ended states) line = None
 
 abbrev pub policy_end : At → Option (List State)
 policy_end Start = None
-policy_end (In part states) = None
+policy_end (In states) = None
 policy_end (Ended states) = Some states
 
 -- the states of the policy, or the number of the first line that does not fit

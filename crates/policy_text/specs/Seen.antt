@@ -1,11 +1,9 @@
 -- What stands before a line, as the reader keeps it.
 use Rattle.policy_text.specs.declared.reader.PolicyReader.{PolicyReader}
 use Rattle.policy_text.specs.declared.reader.PolicyReader.TheVariants as seen
-use Rattle.policy_text.specs.Text.{States, Moves}
 use Rattle.policy_text.specs.Reading.{At, Start, In, Ended}
 
 abbrev pub at_of : PolicyReader → At
 at_of seen.Start = Start
-at_of (seen.States policy) = In States policy
-at_of (seen.Moves policy) = In Moves policy
+at_of (seen.In policy) = In policy
 at_of (seen.Ended policy) = Ended policy

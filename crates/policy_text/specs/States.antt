@@ -1,6 +1,6 @@
 -- Policies on the domains of a circuit: states, and the state that each leads to in a domain.
-use Rattle.std.specs.Prelude.{◌≡◌, ℕ, List, [], ◌∷◌, ◌++◌, length, Bool, false, ◌&&◌, Option, Some, None, nat_lt, option_map, slice_get, slice_set}
-use Rattle.std.specs.List.{position}
+use Rattle.std.specs.Prelude.{◌≡◌, ℕ, List, [], ◌∷◌, ◌++◌, length, Bool, false, ◌&&◌, Option, Some, None, nat_eq, nat_lt, option_map, slice_get, slice_set}
+use Rattle.std.specs.List.{position, list_all}
 use Rattle.std.specs.Option.{is_none, option_or, option_map_or, option_and_then}
 use Rattle.std.specs.Str.{bytes_eq}
 use Rattle.line_text.specs.Fields.{Word, kept_if}
@@ -27,9 +27,12 @@ accepts_at states n = option_map_or (λ state. state.accepts) (slice_get states 
 abbrev pub new_state : Word → Bool → State
 new_state name accepts = record { name = name; accepts = accepts; moves = []; otherwise = None }
 
--- the states with one more: at most 64, whose names differ
+abbrev pub leads_nowhere : State → Bool
+leads_nowhere state = nat_eq (length state.moves) 0 && is_none state.otherwise
+
+-- the states with one more: at most 64, whose names differ, and all of them before the first move
 abbrev pub declared : List State → Word → Bool → Option (List State)
-declared states name accepts = kept_if (is_none (state_at states name) && nat_lt (length states) 64) (states ++ new_state name accepts ∷ [])
+declared states name accepts = kept_if (list_all leads_nowhere states && (is_none (state_at states name) && nat_lt (length states) 64)) (states ++ new_state name accepts ∷ [])
 
 -- a state with one move more, in a domain for which it has none
 abbrev pub moving : State → Word → ℕ → Option State

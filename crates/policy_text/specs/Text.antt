@@ -1,5 +1,5 @@
 -- The text of a policy.
-use Rattle.std.specs.Prelude.{◌≡◌, ℕ, ◌<◌, List, [], ◌∷◌, length, Bool, true, false, Option, Some, None, IsTrue, codes, option_map}
+use Rattle.std.specs.Prelude.{◌≡◌, ℕ, ◌<◌, List, [], ◌∷◌, length, Bool, true, false, Option, Some, IsTrue, codes}
 use Rattle.line_text.specs.Lines.{Line, text_of}
 use Rattle.line_text.specs.Fields.{Word, spaced}
 use Rattle.place_names.specs.Names.{is_id}
@@ -18,10 +18,13 @@ abbrev pub accept_words : Bool → List Word
 accept_words true = codes "accept" ∷ []
 accept_words false = []
 
+abbrev pub words_of : PolicyLine → List Word
+words_of (Declared name accepts) = codes "state" ∷ name ∷ accept_words accepts
+words_of (Move from domain to) = codes "move" ∷ from ∷ domain ∷ to ∷ []
+words_of (Otherwise from to) = codes "else" ∷ from ∷ to ∷ []
+
 abbrev pub policy_line : PolicyLine → Line
-policy_line (Declared name accepts) = spaced (codes "state" ∷ name ∷ accept_words accepts)
-policy_line (Move from domain to) = spaced (codes "move" ∷ from ∷ domain ∷ to ∷ [])
-policy_line (Otherwise from to) = spaced (codes "else" ∷ from ∷ to ∷ [])
+policy_line line = spaced (words_of line)
 
 -- the names and the domain are ids
 abbrev pub HasIds : PolicyLine → Type 0
@@ -29,32 +32,22 @@ HasIds (Declared name accepts) = IsTrue (is_id name)
 HasIds (Move from domain to) = IsTrue (is_id from) × IsTrue (is_id domain) × IsTrue (is_id to)
 HasIds (Otherwise from to) = IsTrue (is_id from) × IsTrue (is_id to)
 
--- ---- the order of the lines
+-- ---- the lines together
 
--- what stands before a line
-pub data Part : Type 0 where
-  States : Part
-  Moves : Part
-
-abbrev pub in_part : Part → Option (List State) → Option (Part × List State)
-in_part part states = option_map (λ states. (part, states)) states
-
--- what a line makes of the states before it: behind a move no state is declared
-abbrev pub told : Part → List State → PolicyLine → Option (Part × List State)
-told States states (Declared name accepts) = in_part States (declared states name accepts)
-told Moves states (Declared name accepts) = None
-told part states (Move from domain to) = in_part Moves (moved states from domain to)
-told part states (Otherwise from to) = in_part Moves (defaulted states from to)
+-- what a line makes of the states before it
+abbrev pub told : List State → PolicyLine → Option (List State)
+told states (Declared name accepts) = declared states name accepts
+told states (Move from domain to) = moved states from domain to
+told states (Otherwise from to) = defaulted states from to
 
 -- the lines lead from states to others, one by one
-abbrev pub Tell : List PolicyLine → Part × List State → Part × List State → Type 0
-Tell [] before whole = before ≡ whole
-Tell (line ∷ lines) before whole = (next : Part × List State) × HasIds line × (told before.0 before.1 line ≡ Some next) × Tell lines next whole
+abbrev pub Tell : List PolicyLine → List State → List State → Type 0
+Tell [] states whole = states ≡ whole
+Tell (line ∷ lines) states whole = (next : List State) × HasIds line × (told states line ≡ Some next) × Tell lines next whole
 
 -- the lines of a policy, which has a state at least
 pub record IsPolicyOf (lines : List PolicyLine) (states : List State) : Type 0 where
-  pub part : Part
-  pub told : Tell lines (States, []) (part, states)
+  pub told : Tell lines [] states
   pub some : 0 < length states
 
 abbrev pub lines_to_end : List PolicyLine → List Line

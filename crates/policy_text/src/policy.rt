@@ -1,4 +1,4 @@
-ghost use Rattle.std.specs.Prelude.{◌≡◌, ◌<◌, ◌≤◌, [], IsSome, IfSome, length, slice_get};
+ghost use Rattle.std.specs.Prelude.{◌≡◌, ◌<◌, ◌≤◌, [], IfSome, length};
 ghost use Rattle.line_text.specs.Cursor.{Gives};
 ghost use Rattle.policy_text.specs.States.{accepts_at, declared, defaulted, moved, next_of, state_at};
 
@@ -74,10 +74,13 @@ impl Policy {
         }
     }
 
-    /// Adds a state.
+    /// Adds a state, behind none that leads anywhere.
     pub(crate) fn declare(&mut self, alloc: Global, name: Id, accepts: bool) -> Result<(), Refused>
         ensures { Gives (λ x. self.new) result (declared self.old name accepts) }
     {
+        if !self.states.iter().all(|state| state.leads_nowhere()) {
+            return Err(Refused::Misfit);
+        }
         if self.number(&name).is_some() {
             return Err(Refused::Misfit);
         }

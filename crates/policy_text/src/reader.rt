@@ -1,11 +1,11 @@
 // A policy, read line by line.
-ghost use Rattle.std.specs.Prelude.{◌≡◌, IfErr, IfOk, Some};
+ghost use Rattle.std.specs.Prelude.{◌≡◌, IfErr, IfOk};
 ghost use Rattle.line_fault.specs.Answering.{AnswersAs, NamesFirstMisfit};
 ghost use Rattle.line_text.specs.Cursor.{Gives};
 ghost use Rattle.line_text.specs.Lines.{closing};
-ghost use Rattle.policy_text.specs.Reading.{In, noted, policy_end, policy_in, policy_step};
+ghost use Rattle.policy_text.specs.Reading.{In, ended, policy_end, policy_in, policy_step};
 ghost use Rattle.policy_text.specs.Seen.{at_of};
-ghost use Rattle.policy_text.specs.Text.{IsPolicyText, Moves, Spells, States};
+ghost use Rattle.policy_text.specs.Text.{IsPolicyText, Spells, told};
 
 use crate::line::{PolicyLine, read_line};
 use crate::policy::Policy;
@@ -17,14 +17,13 @@ use std::alloc::Global;
 #[derive(Drop)]
 enum PolicyReader {
     Start,
-    States(Policy),
-    Moves(Policy),
+    In(Policy),
     Ended(Policy),
 }
 
 /// Ends a policy, which has a state at least.
 fn end(policy: Policy) -> Result<PolicyReader, Refused>
-    ensures { Gives at_of result (Rattle.line_text.specs.Fields.kept_if (Rattle.std.specs.Prelude.nat_lt 0 (Rattle.std.specs.Prelude.length policy)) (Rattle.policy_text.specs.Reading.Ended policy)) }
+    ensures { Gives at_of result (ended policy) }
 {
     if policy.states() == 0 {
         return Err(Refused::Misfit);
@@ -32,61 +31,27 @@ fn end(policy: Policy) -> Result<PolicyReader, Refused>
     Ok(PolicyReader::Ended(policy))
 }
 
-/// Takes a line behind states.
-fn note_behind_states(mut policy: Policy, alloc: Global, line: PolicyLine) -> Result<PolicyReader, Refused>
-    ensures { Gives at_of result (noted States policy (Some line)) }
+/// Adds what a line tells.
+fn note(policy: &mut Policy, alloc: Global, line: PolicyLine) -> Result<(), Refused>
+    ensures { Gives (λ x. policy.new) result (told policy.old line) }
 {
     match line {
-        PolicyLine::Declared { name, accepts } => {
-            policy.declare(alloc, name, accepts)?;
-            Ok(PolicyReader::States(policy))
-        }
-        PolicyLine::Move { from, domain, to } => {
-            policy.add_move(&from, domain, &to)?;
-            Ok(PolicyReader::Moves(policy))
-        }
-        PolicyLine::Otherwise { from, to } => {
-            policy.add_otherwise(&from, &to)?;
-            Ok(PolicyReader::Moves(policy))
-        }
+        PolicyLine::Declared { name, accepts } => policy.declare(alloc, name, accepts),
+        PolicyLine::Move { from, domain, to } => policy.add_move(&from, domain, &to),
+        PolicyLine::Otherwise { from, to } => policy.add_otherwise(&from, &to),
     }
 }
 
-/// Takes a line behind moves.
-fn note_behind_moves(mut policy: Policy, line: PolicyLine) -> Result<PolicyReader, Refused>
-    ensures { Gives at_of result (noted Moves policy (Some line)) }
-{
-    match line {
-        PolicyLine::Declared { .. } => Err(Refused::Misfit),
-        PolicyLine::Move { from, domain, to } => {
-            policy.add_move(&from, domain, &to)?;
-            Ok(PolicyReader::Moves(policy))
-        }
-        PolicyLine::Otherwise { from, to } => {
-            policy.add_otherwise(&from, &to)?;
-            Ok(PolicyReader::Moves(policy))
-        }
-    }
-}
-
-fn take_behind_states(policy: Policy, alloc: Global, line: &[u8]) -> Result<PolicyReader, Refused>
-    ensures { Gives at_of result (policy_step (In States policy) line.now) }
+/// Takes a line behind the first one.
+fn take_behind(mut policy: Policy, alloc: Global, line: &[u8]) -> Result<PolicyReader, Refused>
+    ensures { Gives at_of result (policy_step (In policy) line.now) }
 {
     if line == b"end".as_slice() {
         return end(policy);
     }
     let line = read_line(alloc, line)?;
-    note_behind_states(policy, alloc, line)
-}
-
-fn take_behind_moves(policy: Policy, alloc: Global, line: &[u8]) -> Result<PolicyReader, Refused>
-    ensures { Gives at_of result (policy_step (In Moves policy) line.now) }
-{
-    if line == b"end".as_slice() {
-        return end(policy);
-    }
-    let line = read_line(alloc, line)?;
-    note_behind_moves(policy, line)
+    note(&mut policy, alloc, line)?;
+    Ok(PolicyReader::In(policy))
 }
 
 /// Takes the next line.
@@ -98,10 +63,9 @@ fn take_line(reader: PolicyReader, alloc: Global, line: &[u8]) -> Result<PolicyR
             if line != b"policy 1".as_slice() {
                 return Err(Refused::Misfit);
             }
-            Ok(PolicyReader::States(Policy::new(alloc)))
+            Ok(PolicyReader::In(Policy::new(alloc)))
         }
-        PolicyReader::States(policy) => take_behind_states(policy, alloc, line),
-        PolicyReader::Moves(policy) => take_behind_moves(policy, alloc, line),
+        PolicyReader::In(policy) => take_behind(policy, alloc, line),
         PolicyReader::Ended(_) => Err(Refused::Misfit),
     }
 }
@@ -116,8 +80,7 @@ fn finish(reader: PolicyReader, rest: &[u8], line: u64) -> Result<Policy, LineFa
     match reader {
         PolicyReader::Ended(policy) => Ok(policy),
         PolicyReader::Start => Err(LineFault::Line { line }),
-        PolicyReader::States(_) => Err(LineFault::Line { line }),
-        PolicyReader::Moves(_) => Err(LineFault::Line { line }),
+        PolicyReader::In(_) => Err(LineFault::Line { line }),
     }
 }
 

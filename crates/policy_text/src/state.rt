@@ -1,6 +1,6 @@
-ghost use Rattle.std.specs.Prelude.{◌≡◌, option_map};
+ghost use Rattle.std.specs.Prelude.{◌≡◌};
 ghost use Rattle.line_text.specs.Cursor.{Gives};
-ghost use Rattle.policy_text.specs.States.{defaulting, leads_to, moving, new_state};
+ghost use Rattle.policy_text.specs.States.{defaulting, leads_nowhere, leads_to, moving, new_state};
 
 use id_numbers::IdNumbers;
 use line_text::Refused;
@@ -27,6 +27,13 @@ impl State {
             moves: IdNumbers::new(alloc),
             otherwise: None,
         }
+    }
+
+    /// Whether no line tells where it leads.
+    pub(crate) fn leads_nowhere(&self) -> bool
+        ensures { result ≡ leads_nowhere self.now }
+    {
+        self.moves.len() == 0 && self.otherwise.is_none()
     }
 
     /// Leads to a state in a domain that has no move.

@@ -1,0 +1,3 @@
+pub mod PolicyLines
+pub mod PolicyLaws
+pub mod PolicyTexts
