@@ -1,3 +1,4 @@
+pub mod Changes
 pub mod PolicyLines
 pub mod PolicyLaws
 pub mod PolicyTexts

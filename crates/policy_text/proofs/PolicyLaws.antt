@@ -55,7 +55,9 @@ led_in (Some next) at e = (next, refl, cc)
 
 noted_is : (states : List State) (o : Option PolicyLine) (at : At) → noted states o ≡ Some at → (line : PolicyLine) × (o ≡ Some line) × (next : List State) × (told states line ≡ Some next) × (In next ≡ at)
 noted_is states None at e = absurd cc
-noted_is states (Some line) at e = (line, refl, led_in (told states line) at e)
+noted_is states (Some line) at e =
+    let g = led_in (told states line) at e in
+    (line, refl, g.0, g.1, g.2)
 
 all_said : (lines : List Line) (states whole : List State) → says (Ended states) lines ≡ Some whole → (lines ≡ []) × (states ≡ whole)
 all_said [] states whole e = (refl, cc)
@@ -70,17 +72,17 @@ policy_found : (lines : List Line) (states whole : List State) → says (In stat
 policy_found [] states whole e = absurd cc
 policy_found (line ∷ lines) states whole e =
     let l = said_led policy_step policy_end (In states) line lines whole e in
-    by_end l.0 l.2 (bytes_eq line ending) refl l.1
+    by_end (λ next f. policy_found lines next whole f) l.0 l.2 (bytes_eq line ending) refl l.1
   where
-    by_end : (at : At) → says at lines ≡ Some whole → (t : Bool) → bytes_eq line ending ≡ t → cond t (ended states) (noted states (line_in (words_in line))) ≡ Some at → AreSaid states (line ∷ lines) whole
-    by_end at later true same step =
+    by_end : ((next : List State) → says (In next) lines ≡ Some whole → AreSaid next lines whole) → (at : At) → says at lines ≡ Some whole → (t : Bool) → bytes_eq line ending ≡ t → cond t (ended states) (noted states (line_in (words_in line))) ≡ Some at → AreSaid states (line ∷ lines) whole
+    by_end behind at later true same step =
         let k = kept (nat_lt 0 (length states)) (Ended states) at step in
         let f = all_said lines states whole (ap (λ (a : At). says a lines) k.1 ∙ later) in
         record { spelled = []; told = f.1; some = subst (λ (ss : List State). 0 < length ss) f.1 (below 0 (length states) k.0); lines = ap (λ (b : Line). b ∷ lines) ((bytes_eq-Decides line ending).0 same) ∙ ap (λ (bs : List Line). ending ∷ bs) f.0 }
-    by_end at later false other step =
+    by_end behind at later false other step =
         let n = noted_is states (line_in (words_in line)) at step in
         let s = line_found line n.0 n.1 in
-        let rest = policy_found lines n.2 whole (ap (λ (a : At). says a lines) n.4 ∙ later) in
+        let rest = behind n.2 (ap (λ (a : At). says a lines) n.4 ∙ later) in
         record { spelled = n.0 ∷ rest.spelled; told = (n.2, s.1, n.3, rest.told); some = rest.some; lines = ap (λ (b : Line). b ∷ lines) s.0 ∙ ap (λ (bs : List Line). policy_line n.0 ∷ bs) rest.lines }
 
 pub whole_found : (lines : List Line) (whole : List State) → says Start lines ≡ Some whole → (spelled : List PolicyLine) × IsPolicyOf spelled whole × (lines ≡ policy_lines spelled)

@@ -1,5 +1,5 @@
 -- The text of sizes: what is read is spelled so, what is spelled so is read, and each front can be finished.
-use Rattle.std.proofs.Common.{◌≡◌, ◌∙◌, refl, sym, ap, subst, ℕ, ◌<◌, ◌^◌, List, [], ◌∷◌, Bool, true, false, cond, Option, Some, None, arith}
+use Rattle.std.proofs.Common.{◌≡◌, ◌∙◌, refl, sym, ap, subst, ℕ, ◌<◌, ◌^◌, List, [], ◌∷◌, ◌++◌, Bool, true, false, cond, Option, Some, None, arith}
 use Rattle.std.specs.Prelude.{IsTrue, option_map, decimal, codes}
 use Rattle.std.specs.List.{AllByRecursion}
 use Rattle.std.specs.Str.{bytes_eq}
@@ -117,7 +117,9 @@ grown (Some next) at e = (next, refl, cc)
 
 noted_is : (table : SizeTable) (o : Option SizeLine) (at : At) → noted table o ≡ Some at → (size : SizeLine) × (o ≡ Some size) × (next : SizeTable) × (with_size table size ≡ Some next) × (In next ≡ at)
 noted_is table None at e = absurd cc
-noted_is table (Some size) at e = (size, refl, grown (with_size table size) at e)
+noted_is table (Some size) at e =
+    let g = grown (with_size table size) at e in
+    (size, refl, g.0, g.1, g.2)
 
 ended : (lines : List Line) (table whole : SizeTable) → says (Ended table) lines ≡ Some whole → (lines ≡ []) × (table ≡ whole)
 ended [] table whole e = (refl, cc)
@@ -132,17 +134,17 @@ sizes_found : (lines : List Line) (table whole : SizeTable) → says (In table) 
 sizes_found [] table whole e = absurd cc
 sizes_found (line ∷ lines) table whole e =
     let l = said_led sizes_step sizes_end (In table) line lines whole e in
-    by_end l.0 l.2 (bytes_eq line ending) refl l.1
+    by_end (λ next f. sizes_found lines next whole f) l.0 l.2 (bytes_eq line ending) refl l.1
   where
-    by_end : (at : At) → says at lines ≡ Some whole → (t : Bool) → bytes_eq line ending ≡ t → cond t (Some (Ended table)) (noted table (size_in (words_in line))) ≡ Some at → AreSaid table (line ∷ lines) whole
-    by_end at later true same step =
+    by_end : ((next : SizeTable) → says (In next) lines ≡ Some whole → AreSaid next lines whole) → (at : At) → says at lines ≡ Some whole → (t : Bool) → bytes_eq line ending ≡ t → cond t (Some (Ended table)) (noted table (size_in (words_in line))) ≡ Some at → AreSaid table (line ∷ lines) whole
+    by_end behind at later true same step =
         let is : Ended table ≡ at = cc in
         let f = ended lines table whole (ap (λ (a : At). says a lines) is ∙ later) in
         record { sizes = []; told = f.1; spelled = ap (λ (k : Line). k ∷ lines) ((bytes_eq-Decides line ending).0 same) ∙ ap (λ (ls : List Line). ending ∷ ls) f.0 }
-    by_end at later false other step =
+    by_end behind at later false other step =
         let n = noted_is table (size_in (words_in line)) at step in
         let s = size_found line n.0 n.1 in
-        let rest = sizes_found lines n.2 whole (ap (λ (a : At). says a lines) n.4 ∙ later) in
+        let rest = behind n.2 (ap (λ (a : At). says a lines) n.4 ∙ later) in
         record { sizes = n.0 ∷ rest.sizes; told = (n.2, s.1, n.3, rest.told); spelled = ap (λ (k : Line). k ∷ lines) s.0 ∙ ap (λ (ls : List Line). size_line n.0 ∷ ls) rest.spelled }
 
 -- behind the first line
