@@ -12,7 +12,9 @@ mod state;
 #[cfg(test)]
 mod tests;
 
-pub use laws::{read_policies_are_spelled, refused_policy_line_is_first, spelled_policies_are_read};
+pub use laws::{
+    read_policies_are_spelled, refused_policy_line_is_first, spelled_policies_are_read,
+};
 pub use line::PolicyLine;
 pub use line_fault::LineFault as PolicyFault;
 pub use policy::Policy;

@@ -53,8 +53,14 @@ fn texts_of_policies(rt: HostRuntime) -> Result<(), Fail> {
             b"policy 1\nstate s\nstate t accept\nmove s west t\nelse s s\nelse t t\nend\n".as_slice(),
             Ok((2, [Some(1), Some(0), Some(1)], [false, true])),
         ),
-        (b"policy 1\nstate s accept\nend\n".as_slice(), Ok((1, none, [true, true]))),
-        (b"policy 1\nstate else\nelse else else\nmove else east else\nend\n".as_slice(), Ok((1, [Some(0), Some(0), Some(0)], [false, false]))),
+        (
+            b"policy 1\nstate s accept\nend\n".as_slice(),
+            Ok((1, none, [true, true])),
+        ),
+        (
+            b"policy 1\nstate else\nelse else else\nmove else east else\nend\n".as_slice(),
+            Ok((1, [Some(0), Some(0), Some(0)], [false, false])),
+        ),
         (most.as_str().as_bytes(), Ok((64, none, [true, false]))),
         (too_many.as_str().as_bytes(), Err(66)),
         (long.as_str().as_bytes(), Ok((2, none, [true, false]))),
@@ -69,13 +75,34 @@ fn texts_of_policies(rt: HostRuntime) -> Result<(), Fail> {
         (b"policy 1\nstate s accepts\nend\n".as_slice(), Err(2)),
         (b"policy 1\nstate s accept \nend\n".as_slice(), Err(2)),
         (b"policy 1\nstate \xFF\nend\n".as_slice(), Err(2)),
-        (b"policy 1\nstate s\nstate s accept\nend\n".as_slice(), Err(3)),
-        (b"policy 1\nstate s\nelse s s\nstate t\nend\n".as_slice(), Err(4)),
-        (b"policy 1\nstate s\nmove s east t\nend\n".as_slice(), Err(3)),
-        (b"policy 1\nstate s\nmove t east s\nend\n".as_slice(), Err(3)),
-        (b"policy 1\nstate s\nstate t\nmove s east s\nmove t east s\nmove s east t\nend\n".as_slice(), Err(6)),
-        (b"policy 1\nstate s\nelse s s\nelse s s\nend\n".as_slice(), Err(4)),
-        (b"policy 1\nstate s\nmove s  east s\nend\n".as_slice(), Err(3)),
+        (
+            b"policy 1\nstate s\nstate s accept\nend\n".as_slice(),
+            Err(3),
+        ),
+        (
+            b"policy 1\nstate s\nelse s s\nstate t\nend\n".as_slice(),
+            Err(4),
+        ),
+        (
+            b"policy 1\nstate s\nmove s east t\nend\n".as_slice(),
+            Err(3),
+        ),
+        (
+            b"policy 1\nstate s\nmove t east s\nend\n".as_slice(),
+            Err(3),
+        ),
+        (
+            b"policy 1\nstate s\nstate t\nmove s east s\nmove t east s\nmove s east t\nend\n".as_slice(),
+            Err(6),
+        ),
+        (
+            b"policy 1\nstate s\nelse s s\nelse s s\nend\n".as_slice(),
+            Err(4),
+        ),
+        (
+            b"policy 1\nstate s\nmove s  east s\nend\n".as_slice(),
+            Err(3),
+        ),
     ];
     for (bytes, wanted) in rows {
         assert_eq!(rt; told(alloc, bytes)?, wanted, "of {bytes:?}");

@@ -1,12 +1,11 @@
 -- The text of sizes: what is read is spelled so, what is spelled so is read, and each front can be finished.
-use Rattle.std.proofs.Common.{◌≡◌, ◌∙◌, refl, sym, ap, subst, ℕ, ◌<◌, ◌^◌, List, [], ◌∷◌, ◌++◌, Bool, true, false, cond, Option, Some, None, arith}
-use Rattle.std.specs.Prelude.{IsTrue, option_map, decimal, codes}
+use Rattle.std.proofs.Common.{◌≡◌, ◌∙◌, refl, ap, subst, ℕ, ◌<◌, ◌^◌, List, [], ◌∷◌, ◌++◌, Bool, true, false, cond, Option, Some, None, arith}
+use Rattle.std.specs.Prelude.{IsTrue, option_map, decimal}
 use Rattle.std.specs.List.{AllByRecursion}
 use Rattle.std.specs.Str.{bytes_eq}
-use Rattle.std.specs.Fmt.{digits}
 use Rattle.std.proofs.lemmas.Slice.Eq.{bytes_eq-Decides}
 use Rattle.line_text.specs.Lines.{Line, said}
-use Rattle.line_text.specs.Fields.{Word, words_in, spaced, kept_if, entry_of, And, Done, done}
+use Rattle.line_text.specs.Fields.{Word, words_in, spaced, entry_of, Done, done}
 use Rattle.place_names.specs.Names.{is_id}
 use Rattle.line_text.proofs.LineLaws.{IsGrammar}
 use Rattle.line_text.proofs.Words.{IsAbove, IsField, IsRow, number_field, id_field, and_row, and_words, done_row, done_words, found_entry, words_again, spaced_line, line_is, kept}

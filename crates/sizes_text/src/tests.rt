@@ -37,8 +37,14 @@ fn texts_of_sizes(rt: HostRuntime) -> Result<(), Fail> {
     let long = text_with_long_id(alloc, 255)?;
     let too_long = text_with_long_id(alloc, 256)?;
     let rows: [(&[u8], Told); 22] = [
-        (b"sizes 1\noverhead ad 8\noctets t 1500\nend\n".as_slice(), Ok((8, 0, Some(1500), None))),
-        (b"sizes 1\noctets t 0\noverhead t 65535\noctets ad 65535\nend\n".as_slice(), Ok((0, 65535, Some(0), Some(65535)))),
+        (
+            b"sizes 1\noverhead ad 8\noctets t 1500\nend\n".as_slice(),
+            Ok((8, 0, Some(1500), None)),
+        ),
+        (
+            b"sizes 1\noctets t 0\noverhead t 65535\noctets ad 65535\nend\n".as_slice(),
+            Ok((0, 65535, Some(0), Some(65535))),
+        ),
         (b"sizes 1\nend\n".as_slice(), Ok((0, 0, None, None))),
         (long.as_str().as_bytes(), Ok((0, 0, None, None))),
         (too_long.as_str().as_bytes(), Err(2)),
@@ -56,7 +62,10 @@ fn texts_of_sizes(rt: HostRuntime) -> Result<(), Fail> {
         (b"sizes 1\noctets  t 8\nend\n".as_slice(), Err(2)),
         (b"sizes 1\noctets \xFF 8\nend\n".as_slice(), Err(2)),
         (b"sizes 1\noctets t 8\r\nend\n".as_slice(), Err(2)),
-        (b"sizes 1\noctets t 8\noverhead t 8\noctets t 8\nend\n".as_slice(), Err(4)),
+        (
+            b"sizes 1\noctets t 8\noverhead t 8\noctets t 8\nend\n".as_slice(),
+            Err(4),
+        ),
         (b"sizes 1\noctets t 8\nend\n\n".as_slice(), Err(4)),
         (b"sizes 1\noctets t 8\nend\nx".as_slice(), Err(4)),
     ];
