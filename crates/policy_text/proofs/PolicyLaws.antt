@@ -1,5 +1,5 @@
 -- The text of a policy: what is read is spelled so, what is spelled so is read, and each front can be finished.
-use Rattle.std.proofs.Common.{◌≡◌, ◌∙◌, refl, sym, ap, subst, ℕ, ◌<◌, List, [], ◌∷◌, length, Bool, true, false, cond, Option, Some, None}
+use Rattle.std.proofs.Common.{◌≡◌, ◌∙◌, refl, sym, ap, subst, ℕ, ◌<◌, List, [], ◌∷◌, length, Bool, true, false, cond, Option, Some, None, arith}
 use Rattle.std.specs.Prelude.{option_map, codes, nat_lt}
 use Rattle.std.specs.List.{AllByRecursion}
 use Rattle.std.specs.Str.{bytes_eq}
@@ -47,7 +47,7 @@ pub record AreSaid (states : List State) (lines : List Line) (whole : List State
   pub spelled : List PolicyLine
   pub told : Tell spelled states whole
   pub some : 0 < length whole
-  pub lines : lines ≡ lines_to_end spelled
+  pub is : lines ≡ lines_to_end spelled
 
 led_in : (o : Option (List State)) (at : At) → option_map In o ≡ Some at → (next : List State) × (o ≡ Some next) × (In next ≡ at)
 led_in None at e = absurd cc
@@ -78,12 +78,12 @@ policy_found (line ∷ lines) states whole e =
     by_end behind at later true same step =
         let k = kept (nat_lt 0 (length states)) (Ended states) at step in
         let f = all_said lines states whole (ap (λ (a : At). says a lines) k.1 ∙ later) in
-        record { spelled = []; told = f.1; some = subst (λ (ss : List State). 0 < length ss) f.1 (below 0 (length states) k.0); lines = ap (λ (b : Line). b ∷ lines) ((bytes_eq-Decides line ending).0 same) ∙ ap (λ (bs : List Line). ending ∷ bs) f.0 }
+        record { spelled = []; told = f.1; some = subst (λ (ss : List State). 0 < length ss) f.1 (below 0 (length states) k.0); is = ap (λ (b : Line). b ∷ lines) ((bytes_eq-Decides line ending).0 same) ∙ ap (λ (bs : List Line). ending ∷ bs) f.0 }
     by_end behind at later false other step =
         let n = noted_is states (line_in (words_in line)) at step in
         let s = line_found line n.0 n.1 in
         let rest = behind n.2 (ap (λ (a : At). says a lines) n.4 ∙ later) in
-        record { spelled = n.0 ∷ rest.spelled; told = (n.2, s.1, n.3, rest.told); some = rest.some; lines = ap (λ (b : Line). b ∷ lines) s.0 ∙ ap (λ (bs : List Line). policy_line n.0 ∷ bs) rest.lines }
+        record { spelled = n.0 ∷ rest.spelled; told = (n.2, s.1, n.3, rest.told); some = rest.some; is = ap (λ (b : Line). b ∷ lines) s.0 ∙ ap (λ (bs : List Line). policy_line n.0 ∷ bs) rest.is }
 
 pub whole_found : (lines : List Line) (whole : List State) → says Start lines ≡ Some whole → (spelled : List PolicyLine) × IsPolicyOf spelled whole × (lines ≡ policy_lines spelled)
 whole_found [] whole e = absurd cc
@@ -91,14 +91,14 @@ whole_found (line ∷ lines) whole e =
     let l = said_led policy_step policy_end Start line lines whole e in
     let k = kept (bytes_eq line heading) (In []) l.0 l.1 in
     let s = policy_found lines [] whole (ap (λ (a : At). says a lines) k.1 ∙ l.2) in
-    (s.spelled, record { told = s.told; some = s.some }, ap (λ (b : Line). b ∷ lines) ((bytes_eq-Decides line heading).0 k.0) ∙ ap (λ (bs : List Line). heading ∷ bs) s.lines)
+    (s.spelled, record { told = s.told; some = s.some }, ap (λ (b : Line). b ∷ lines) ((bytes_eq-Decides line heading).0 k.0) ∙ ap (λ (bs : List Line). heading ∷ bs) s.is)
 
 -- ---- each state can be finished
 
 policy_finished : (at : At) → (more : List Line) × (states : List State) × (says at more ≡ Some states)
 policy_finished Start = (heading ∷ codes "state x" ∷ ending ∷ [], _, refl)
 policy_finished (In []) = (codes "state x" ∷ ending ∷ [], _, refl)
-policy_finished (In (state ∷ states)) = (ending ∷ [], _, refl)
+policy_finished (In (state ∷ states)) = (ending ∷ [], state ∷ states, led_said policy_step policy_end (In (state ∷ states)) (Ended (state ∷ states)) ending [] (at_end (state ∷ states) (omega arith)))
 policy_finished (Ended states) = ([], states, refl)
 
 pub policy_grammar : IsGrammar (led policy_step) policy_end Start IsPolicyText

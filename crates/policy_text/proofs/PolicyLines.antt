@@ -117,7 +117,7 @@ move_found : (words : List Word) (line : PolicyLine) → move_in words ≡ Some 
 move_found words line e =
     let m = mapped (λ (t : And Word (And Word (And Word Done))). Move t.head t.rest.head t.rest.rest.head) (and_of id_of (and_of id_of (and_of id_of done_of)) words) line e in
     let f = move_row.found words m.0 m.1 in
-    subst (λ (l : PolicyLine). IsSpelled (codes "move" ∷ words) l) m.2 (ap (λ (ws : List Word). codes "move" ∷ ws) f.0 ∙ ap (λ (ws : List Word). codes "move" ∷ m.0.head ∷ m.0.rest.head ∷ m.0.rest.rest.head ∷ ws) (no_words m.0.rest.rest.rest), (f.1.0, (f.1.1.0, f.1.1.1.0)))
+    subst (λ (l : PolicyLine). IsSpelled (codes "move" ∷ words) l) m.2 (ap (λ (ws : List Word). codes "move" ∷ ws) f.0 ∙ ap (λ (ws : List Word). codes "move" ∷ m.0.head ∷ m.0.rest.head ∷ m.0.rest.rest.head ∷ ws) (no_words m.0.rest.rest.rest), (f.1.0, f.1.1.0, f.1.1.1.0))
 
 behind : (word key : Word) (words : List Word) (line : PolicyLine) → bytes_eq word key ≡ true → IsSpelled (key ∷ words) line → IsSpelled (word ∷ words) line
 behind word key words line same h = (ap (λ (w : Word). w ∷ words) ((bytes_eq-Decides word key).0 same) ∙ h.0, h.1)

@@ -28,6 +28,14 @@ impl Model for Policy {
     ghost invariant = { λ p. length p.states.items ≤ 64 };
 }
 
+/// The place of the state with a name.
+fn place_of(states: &[State], name: &Id) -> Option<usize>
+    ensures place { result ≡ state_at states.now name.now }
+    ensures within { IfSome result (λ n. n < length states.now) }
+{
+    states.iter().position(|state| state.name == *name)
+}
+
 impl Policy {
     /// A policy without states.
     pub(crate) fn new(alloc: Global) -> Policy
@@ -68,8 +76,8 @@ impl Policy {
         ensures number { result ≡ state_at self.now name.now }
         ensures within { IfSome result (λ n. n < length self.now) }
     {
-        match self.states.iter().position(|state| state.name == *name) {
-            Some(number) => Some(number as u32),
+        match place_of(self.states.as_slice(), name) {
+            Some(place) => Some(place as u32),
             None => None,
         }
     }
