@@ -29,7 +29,7 @@ LAYERS = {
     "network": "nml_elements circuit_spec place_names device_rules topo_gen nml_inventory kept_table layer_check open_places"
                " packet_replay machine_build machine_lift table_replay",
     "meaning": "answer_spec potential_lift finder_core",
-    "text": "line_text line_fault id_numbers sizes_text policy_text domain_config answer_text document_bench",
+    "text": "line_text line_fault id_numbers sizes_text domain_config answer_text document_bench",
     "judging": "verdict hop_check potential_check cert_check rule_replay",
     "commands": "command_words replies file_words find_command check_command drill_command survey_command finder_cli run_rows finder use_run use_solve",
 }

@@ -1,4 +1,0 @@
-pub mod Changes
-pub mod PolicyLines
-pub mod PolicyLaws
-pub mod PolicyTexts

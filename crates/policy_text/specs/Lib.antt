@@ -1,4 +1,0 @@
-pub mod States
-pub mod Text
-pub mod Reading
-pub mod Seen
