@@ -28,7 +28,7 @@ LAYERS = {
     "machine": "adapt_machine marked_machine segment_grammar pair_check root_order deriv_arena knuth_search k_cheapest route_unfold repeat_flags machine_bench",
     "network": "nml_elements circuit_spec place_names device_rules topo_gen nml_inventory kept_table layer_check open_places"
                " packet_replay machine_build machine_lift table_replay",
-"meaning": "answer_spec k_answers potential_lift finder_core k_solver",
+    "meaning": "answer_spec k_answers potential_lift finder_core k_solver",
     "text": "line_text line_fault id_numbers sizes_text domain_config answer_text k_text document_bench",
     "judging": "verdict hop_check potential_check cert_check rule_replay",
     "commands": "command_words replies file_words find_command k_find_command check_command drill_command survey_command finder_cli run_rows finder use_run use_solve",
