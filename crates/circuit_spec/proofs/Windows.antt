@@ -57,7 +57,7 @@ placed_held [] = refl
 placed_held (d ∷ ds) =
     map-append (λ (p : Placed). p.element) (placed_in d) (elements_of ds)
     ∙ ap (λ (xs : List Element). xs ++ map (λ (p : Placed). p.element) (elements_of ds))
-      (map_after (λ (p : Placed). p.element) (λ (e : Entry). record { domain = d; element = e.element }) (λ (e : Entry). e.element) (λ e. refl) d.elements)
+    (map_after (λ (p : Placed). p.element) (λ (e : Entry). record { domain = d; element = e.element }) (λ (e : Entry). e.element) (λ e. refl) d.elements)
     ∙ ap (λ (xs : List Element). held_in d ++ xs) (placed_held ds)
 
 located_part : (w : Interval) (n : ℕ) (T : Topology) → IsPart (flat_map located_in (enumerate_from n (topology_during w T))) (flat_map located_in (enumerate_from n T))
@@ -75,8 +75,8 @@ found_part w h same [] = tt
 found_part w h same (d ∷ ds) =
     rw (filter_map-append h (placed_in (during w d)) (elements_of (topology_during w ds)), filter_map-append h (placed_in d) (elements_of ds))
     (part_append (filter_map h (placed_in (during w d))) (filter_map h (placed_in d)) (filter_map h (elements_of (topology_during w ds))) (filter_map h (elements_of ds))
-      (part_found h (stays w) (λ (e : Entry). record { domain = during w d; element = e.element }) (λ (e : Entry). record { domain = d; element = e.element }) (same d) d.elements)
-      (found_part w h same ds))
+    (part_found h (stays w) (λ (e : Entry). record { domain = during w d; element = e.element }) (λ (e : Entry). record { domain = d; element = e.element }) (same d) d.elements)
+    (found_part w h same ds))
 
 same_port : (w : Interval) (d : Domain) (e : Element) → port_at (during w d) e ≡ port_at d e
 same_port w d (element.Node n) = refl
@@ -121,8 +121,8 @@ located_ids n (d ∷ ds) =
     let of_entry : Entry → Name = λ (e : Entry). id_of e.element in
     map-append key (located_in (n, d)) (flat_map located_in (enumerate_from (n + 1) ds))
     ∙ ap (λ (xs : List Name). xs ++ map key (flat_map located_in (enumerate_from (n + 1) ds)))
-      (map_after key (λ (e : Entry). record { spot = record { file = n; element = e.number }; element = e.element }) of_entry (λ e. refl) d.elements
-      ∙ sym (map_after id_of (λ (e : Entry). e.element) of_entry (λ e. refl) d.elements))
+    (map_after key (λ (e : Entry). record { spot = record { file = n; element = e.number }; element = e.element }) of_entry (λ e. refl) d.elements
+    ∙ sym (map_after id_of (λ (e : Entry). e.element) of_entry (λ e. refl) d.elements))
     ∙ ap (λ (xs : List Name). map id_of (held_in d) ++ xs) (located_ids (n + 1) ds)
     ∙ sym (map-append id_of (held_in d) (held ds))
 
@@ -194,9 +194,9 @@ kinds_right w T none right =
     let there = topology_during w T in
     let of : Topology → Located → List MergeFault = λ U (e : Located). flat_map (wrong_targets U e.spot) (relations_of e.element) in
     all_empty (of there) (located there) (λ e among.
-      let before : of T e ≡ [] = each_empty (of T) (located T) e right (part_among (located there) (located T) e (located_part w 1 T) among) in
-      all_empty (wrong_targets there e.spot) (relations_of e.element) (λ r in_r.
-        targets_right w T e.spot r none (each_empty (wrong_targets T e.spot) (relations_of e.element) r before in_r)))
+    let before : of T e ≡ [] = each_empty (of T) (located T) e right (part_among (located there) (located T) e (located_part w 1 T) among) in
+    all_empty (wrong_targets there e.spot) (relations_of e.element) (λ r in_r.
+    targets_right w T e.spot r none (each_empty (wrong_targets T e.spot) (relations_of e.element) r before in_r)))
 
 merged_part : (w : Interval) (T : Topology) → merge_faults T ≡ [] → merge_faults (topology_during w T) ≡ []
 merged_part w T merged =
@@ -252,9 +252,9 @@ classes_part w T fit =
     let there = topology_during w T in
     part_all (λ p. AllByRecursion (Fits there p) (ports there)) (ports there) (ports T) (ports_part w T)
     (all_weaker (λ p. AllByRecursion (Fits T p) (ports T)) (λ p. AllByRecursion (Fits there p) (ports there))
-      (λ p all. part_all (Fits there p) (ports there) (ports T) (ports_part w T)
-        (all_weaker (Fits T p) (Fits there p) (λ q fits linked. fits (linked_before w T p.id q.id linked)) (ports T) all))
-      (ports T) fit)
+    (λ p all. part_all (Fits there p) (ports there) (ports T) (ports_part w T)
+    (all_weaker (Fits T p) (Fits there p) (λ q fits linked. fits (linked_before w T p.id q.id linked)) (ports T) all))
+    (ports T) fit)
 
 -- ---- links and services
 
@@ -329,7 +329,7 @@ service_part w T of_node listed s =
     let there = topology_during w T in
     lent_or_listed (is_none s.inbound && is_none s.outbound) (filter (has_encoding there s.encoding) (flat_map of_node (nodes_of there s.id))) (filter (has_encoding T s.encoding) (flat_map of_node (nodes_of T s.id))) (unwrap_or listed [])
     (part_filter (has_encoding there s.encoding) (has_encoding T s.encoding) (encoding_before w T s.encoding) (flat_map of_node (nodes_of there s.id)) (flat_map of_node (nodes_of T s.id))
-      (part_flat of_node (nodes_of there s.id) (nodes_of T s.id) (nodes_part w T s.id)))
+    (part_flat of_node (nodes_of there s.id) (nodes_of T s.id) (nodes_part w T s.id)))
 
 switch_fits : (w : Interval) (T : Topology) (s : SwitchE) → switch_faults T s ≡ [] → switch_faults (topology_during w T) s ≡ []
 switch_fits w T s none =
@@ -337,20 +337,20 @@ switch_fits w T s none =
     let joins : Topology → Port → Bool = λ U (p : Port). names (inbound_of U s) p.id || names (outbound_of U s) p.id in
     fewer_faults SwitchLayer SwitchLabelType s.id s.encoding None (filter (joins there) (ports there)) (filter (joins T) (ports T))
     (λ p among. part_among (filter (joins there) (ports there)) (filter (joins T) (ports T)) p
-      (part_filter (joins there) (joins T)
-        (λ q h. or_weaker _ _ (names (inbound_of T s) q.id) (names (outbound_of T s) q.id)
-          (part_any (λ x. bytes_eq x q.id) (inbound_of there s) (inbound_of T s) (service_part w T (λ (n : NodeE). n.inbound) s.inbound s))
-          (part_any (λ x. bytes_eq x q.id) (outbound_of there s) (outbound_of T s) (service_part w T (λ (n : NodeE). n.outbound) s.outbound s)) h)
-        (ports there) (ports T) (ports_part w T)) among) none
+    (part_filter (joins there) (joins T)
+    (λ q h. or_weaker _ _ (names (inbound_of T s) q.id) (names (outbound_of T s) q.id)
+    (part_any (λ x. bytes_eq x q.id) (inbound_of there s) (inbound_of T s) (service_part w T (λ (n : NodeE). n.inbound) s.inbound s))
+    (part_any (λ x. bytes_eq x q.id) (outbound_of there s) (outbound_of T s) (service_part w T (λ (n : NodeE). n.outbound) s.outbound s)) h)
+    (ports there) (ports T) (ports_part w T)) among) none
 
 relating_part : (w : Interval) (T : Topology) → relating_faults T ≡ [] → relating_faults (topology_during w T) ≡ []
 relating_part w T none =
     let there = topology_during w T in
     let parts = both_empty (flat_map (link_faults T) (links T)) (flat_map (switch_faults T) (switches T)) none in
     let no_link : flat_map (link_faults there) (links there) ≡ [] = all_empty (link_faults there) (links there)
-      (λ l among. link_fits w T l (each_empty (link_faults T) (links T) l parts.0 (part_among (links there) (links T) l (links_part w T) among))) in
+    (λ l among. link_fits w T l (each_empty (link_faults T) (links T) l parts.0 (part_among (links there) (links T) l (links_part w T) among))) in
     let no_switch : flat_map (switch_faults there) (switches there) ≡ [] = all_empty (switch_faults there) (switches there)
-      (λ s among. switch_fits w T s (each_empty (switch_faults T) (switches T) s parts.1 (part_among (switches there) (switches T) s (switches_part w T) among))) in
+    (λ s among. switch_fits w T s (each_empty (switch_faults T) (switches T) s parts.1 (part_among (switches there) (switches T) s (switches_part w T) among))) in
     rw (no_link, no_switch) refl
 
 pub accepted_during : (T : Topology) (w : Interval) → IsAccepted T → IsAccepted (topology_during w T)

@@ -23,7 +23,11 @@ use potential_lift::potentials_of;
 use std::alloc::Global;
 
 /// The machine of a known request.
-pub fn machine_of(alloc: Global, inventory: &Inventory, request: &Request) -> Result<Built, NoMemory>
+pub fn machine_of(
+    alloc: Global,
+    inventory: &Inventory,
+    request: &Request,
+) -> Result<Built, NoMemory>
     requires sound { IsSound inventory.now }
     requires known { IsKnown inventory.now request.now }
     ensures { IfOk result (IsMachineOf inventory.now request.now) }
