@@ -66,7 +66,7 @@ class Request:
 
 @dataclass(slots=True)
 class Outcome:
-    """`found`, `none`, `past` or `long`; the weight stands with `found` and `long` alone."""
+    """`found`, `none`, `past` or `long`; the weight stands with `found` and `long` alone. A walk of a list is `listed`, with its weight."""
     word: str
     weight: Weight | None
 

@@ -106,21 +106,21 @@ def _list_lines(part: WalkList) -> Iterator[str]:
     yield "end"
 
 
-# ---- the document of a walk
+# ---- a walk as an answer, for pictures
 
-def document_of(part: WalkList, number: int, network: Network) -> Answer:
-    """The document of a listed walk, from 1, without potentials: with flags and rules, as if it had been found."""
+def answer_of(part: WalkList, number: int, network: Network) -> Answer:
+    """A listed walk, by its number from 1, as an answer with flags and rules and without potentials; its outcome is `listed`."""
     walk = part.walks[number - 1]
     rules: dict[str, list[Rule]] = {}
     for at, hop in enumerate(walk.hops, 1):
         verb = VERBS.get(hop.kind) or ("connect" if hop.source.label == hop.target.label else "swap")
         rules.setdefault(hop.domain, []).append(Rule(at, verb, hop.element, hop.source, hop.target))
-    return Answer(part.request, Outcome("found", walk.weight), list(_flagged(walk.hops, network)),
+    return Answer(part.request, Outcome("listed", walk.weight), list(_flagged(walk.hops, network)),
                   [DomainRules(domain, rules[domain]) for domain in sorted(rules)])
 
 
-def empty_document(part: WalkList) -> Answer:
-    """The document of a list without walks, without potentials."""
+def empty_answer(part: WalkList) -> Answer:
+    """A list without walks as an answer, without potentials."""
     return Answer(part.request, part.more)
 
 
