@@ -6,11 +6,13 @@ from typing import Any
 
 from finderlib.documents import HOPS_MOST, KINDS, LABEL_LIMIT, NUMBER_LIMIT, NUMBER_TEXT, VERBS, Answer, DocumentFault, DomainRules, Hop
 from finderlib.documents import Outcome, Place, Potential, Request, Rule, Weight, read_answer, write_answer
+from finderlib.lists import MORE_WORDS, ListedWalk, WalkList, read_list, write_list
 from finderlib.replies import DRILL_TOTALS, FORMS, KINDS_OF_LINES, TOTALS, Counts, Drill, Line, fields_of, is_text_field
 from finderlib.replies import read_counts, read_drill, read_line, write_counts, write_drill, write_line
 
-Text = Answer | Counts | Drill | Line
+Text = Answer | WalkList | Counts | Drill | Line
 Tree = dict[str, Any]
+LISTED_HOP = ("number", "kind", "element", "from", "fromLabel", "to", "toLabel", "domain")
 
 
 class JsonFault(Exception):
@@ -18,8 +20,8 @@ class JsonFault(Exception):
 
 
 def read_text(data: bytes) -> Text:
-    """A document, counts, what `drill` prints, or a line that refuses or judges; raises DocumentFault."""
-    for start, read in ((b"circuit", read_answer), (b"survey", read_counts), (b"drill", read_drill)):
+    """A document, a list, counts, what `drill` prints, or a line that refuses or judges; raises DocumentFault."""
+    for start, read in ((b"circuits", read_list), (b"circuit", read_answer), (b"survey", read_counts), (b"drill", read_drill)):
         if data.startswith(start):
             return read(data)
     return read_line(data)
@@ -28,6 +30,8 @@ def read_text(data: bytes) -> Text:
 def write_text(text: Text) -> bytes:
     if isinstance(text, Answer):
         return write_answer(text)
+    if isinstance(text, WalkList):
+        return write_list(text)
     if isinstance(text, Counts):
         return write_counts(text)
     return write_drill(text) if isinstance(text, Drill) else write_line(text)
@@ -39,6 +43,8 @@ def json_lines(text: Text) -> Iterator[str]:
     """The JSON of a text, in lines: those of an answer's lists have one item each."""
     if isinstance(text, Answer):
         yield from _answer_lines(text)
+    elif isinstance(text, WalkList):
+        yield from _walk_list_lines(text)
     elif isinstance(text, Counts):
         domains = [{"domain": name, "elements": number} for name, number in text.domains]
         yield _compact({"kind": "survey", "domains": domains, "totals": text.totals})
@@ -57,6 +63,13 @@ def _answer_lines(answer: Answer) -> Iterator[str]:
     yield from _list_lines("domains", map(_domain_tree, answer.domains), ",")
     yield from _list_lines("top", map(_top_tree, answer.tops), ",")
     yield from _list_lines("seg", map(_seg_tree, answer.segs), "}")
+
+
+def _walk_list_lines(part: WalkList) -> Iterator[str]:
+    yield '{"kind":"list",'
+    yield f'"request":{_compact(_request_tree(part.request))},'
+    yield from _list_lines("walks", (_walk_tree(number, walk) for number, walk in enumerate(part.walks, 1)), ",")
+    yield f'"more":{_compact(_outcome_tree(part.more))}}}'
 
 
 def _list_lines(name: str, items: Iterator[Tree], behind: str) -> Iterator[str]:
@@ -93,7 +106,16 @@ def _ends_tree(part: Hop | Rule) -> Tree:
 
 
 def _hop_tree(number: int, hop: Hop) -> Tree:
-    return {"number": number, "kind": hop.kind, **_ends_tree(hop), "domain": hop.domain, "again": hop.again}
+    return {**_listed_hop_tree(number, hop), "again": hop.again}
+
+
+def _listed_hop_tree(number: int, hop: Hop) -> Tree:
+    return {"number": number, "kind": hop.kind, **_ends_tree(hop), "domain": hop.domain}
+
+
+def _walk_tree(number: int, walk: ListedWalk) -> Tree:
+    hops = [_listed_hop_tree(at, hop) for at, hop in enumerate(walk.hops, 1)]
+    return {"number": number, "cost": str(walk.weight.cost), "hops": hops}
 
 
 def _domain_tree(part: DomainRules) -> Tree:
@@ -173,6 +195,11 @@ class _Part:
             raise self.bad(name, f"not a whole number below {limit}")
         return value
 
+    def due(self, name: str, due: int) -> None:
+        """Refuses another number than the one that is due."""
+        if self.number(name) != due:
+            raise self.bad(name, f"not {due}")
+
     def number_or_none(self, name: str, limit: int = NUMBER_LIMIT) -> int | None:
         return None if self.tree.get(name) is None else self.number(name, limit)
 
@@ -207,6 +234,8 @@ def _text_of(part: _Part) -> Text:
     kind = part.text("kind")
     if kind == "answer":
         return _answer_of(part)
+    if kind == "list":
+        return _list_of(part)
     if kind == "survey":
         return _counts_of(part)
     if kind == "drill":
@@ -230,9 +259,9 @@ def _request_of(part: _Part) -> Request:
                    part.text("to"), part.number_or_none("toLabel", LABEL_LIMIT))
 
 
-def _outcome_of(part: _Part) -> Outcome:
+def _outcome_of(part: _Part, words: tuple[str, ...] = ("found", "none", "past", "long")) -> Outcome:
     part.only("word", "cost", "hops")
-    word = part.word("word", ("found", "none", "past", "long"))
+    word = part.word("word", words)
     weight = part.weight()
     if (weight is None) == (word in ("found", "long")):
         raise part.bad("cost", f"{'absent' if weight is None else 'given'}, which {word} does not allow")
@@ -240,11 +269,32 @@ def _outcome_of(part: _Part) -> Outcome:
 
 
 def _hop_of(part: _Part, due: int) -> Hop:
-    part.only("number", "kind", "element", "from", "fromLabel", "to", "toLabel", "domain", "again")
-    if part.number("number") != due:
-        raise part.bad("number", f"not {due}")
+    part.only(*LISTED_HOP, "again")
+    return _any_hop_of(part, due)
+
+
+def _listed_hop_of(part: _Part, due: int) -> Hop:
+    part.only(*LISTED_HOP)
+    return _any_hop_of(part, due)
+
+
+def _any_hop_of(part: _Part, due: int) -> Hop:
+    part.due("number", due)
     return Hop(part.word("kind", KINDS), part.text("element"), part.place("from", "fromLabel"), part.place("to", "toLabel"),
                part.text("domain"), part.number_or_none("again"))
+
+
+def _list_of(part: _Part) -> WalkList:
+    part.only("kind", "request", "walks", "more")
+    return WalkList(_request_of(part.part("request")), [_walk_of(walk, number) for number, walk in enumerate(part.parts("walks"), 1)],
+                    _outcome_of(part.part("more"), MORE_WORDS))
+
+
+def _walk_of(part: _Part, due: int) -> ListedWalk:
+    part.only("number", "cost", "hops")
+    part.due("number", due)
+    hops = [_listed_hop_of(hop, number) for number, hop in enumerate(part.parts("hops"), 1)]
+    return ListedWalk(Weight(part.cost("cost"), len(hops)), hops)
 
 
 def _domain_of(part: _Part) -> DomainRules:

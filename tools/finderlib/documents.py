@@ -18,14 +18,14 @@ _TAG = rf"(-|{NUMBER_TEXT})"
 _WISH = rf"(any|{NUMBER_TEXT})"
 _WEIGHT = rf"(?:(past) -|{_NUMBER} {_NUMBER})"
 _HEADING = re.compile("circuit 1")
-_REQUEST = re.compile(rf"request {_ID} {_WISH} {_ID} {_WISH}")
+REQUEST_LINE = re.compile(rf"request {_ID} {_WISH} {_ID} {_WISH}")
 _OUTCOME = re.compile(rf"outcome (?:(none|past)|(found|long) {_NUMBER} {_NUMBER})")
-_HOP = re.compile(rf"hop {_NUMBER} ({'|'.join(KINDS)}) {_ID} {_ID} {_TAG} {_ID} {_TAG} {_ID}(?: again {_NUMBER})?")
+HOP_LINE = re.compile(rf"hop {_NUMBER} ({'|'.join(KINDS)}) {_ID} {_ID} {_TAG} {_ID} {_TAG} {_ID}(?: again {_NUMBER})?")
 _DOMAIN = re.compile(rf"domain {_ID}")
 _RULE = re.compile(rf"rule {_NUMBER} ({'|'.join(VERBS)}) {_ID} {_ID} {_TAG} {_ID} {_TAG}")
 _TOP = re.compile(rf"top {_ID} {_TAG} {_WEIGHT}")
 _SEG = re.compile(rf"seg {_ID} {_TAG} {_ID} {_TAG} {_WEIGHT}")
-_END = re.compile("end")
+END_LINE = re.compile("end")
 
 
 class DocumentFault(Exception):
@@ -66,7 +66,7 @@ class Request:
 
 @dataclass(slots=True)
 class Outcome:
-    """`found`, `none`, `past` or `long`; the weight stands with `found` and `long` alone."""
+    """`found`, `none`, `past` or `long`; the weight stands with `found` and `long` alone. A walk of a list is `listed`, with its weight."""
     word: str
     weight: Weight | None
 
@@ -120,7 +120,7 @@ class Answer:
 
 # ---- reading
 
-class _Lines:
+class Lines:
     """The lines of a text, taken one after another where they fit a pattern."""
 
     def __init__(self, data: bytes):
@@ -173,9 +173,9 @@ class _Lines:
 
 def read_answer(data: bytes) -> Answer:
     """The answer that a text spells; raises DocumentFault at the first line that does not fit."""
-    lines = _Lines(data)
+    lines = Lines(data)
     lines.need(_HEADING, "`circuit 1`")
-    request = _read_request(lines)
+    request = read_request(lines)
     outcome = _read_outcome(lines)
     answer = Answer(request, outcome)
     if outcome.word == "found":
@@ -183,7 +183,7 @@ def read_answer(data: bytes) -> Answer:
         answer.domains.extend(_read_domains(lines))
     answer.tops.extend(_read_potentials(lines, _TOP))
     answer.segs.extend(_read_potentials(lines, _SEG))
-    lines.need(_END, "another line of its kind, one of a later kind, or `end`")
+    lines.need(END_LINE, "another line of its kind, one of a later kind, or `end`")
     lines.at_end()
     return answer
 
@@ -191,33 +191,39 @@ def read_answer(data: bytes) -> Answer:
 def read_outcome(text: str, line: int) -> Outcome:
     """The outcome that one line spells, without its newline; `line` is its number in messages."""
     try:
-        return _read_outcome(_Lines(text.encode("latin-1") + b"\n"))
+        return _read_outcome(Lines(text.encode("latin-1") + b"\n"))
     except DocumentFault as fault:
         raise DocumentFault(line, fault.reason) from fault
 
 
-def _read_request(lines: _Lines) -> Request:
-    source, source_wish, target, target_wish = lines.need(_REQUEST, "`request ID WISH ID WISH`").groups()
+def read_request(lines: Lines) -> Request:
+    """The request of the next line."""
+    source, source_wish, target, target_wish = lines.need(REQUEST_LINE, "`request ID WISH ID WISH`").groups()
     return Request(source, lines.label(source_wish, "any"), target, lines.label(target_wish, "any"))
 
 
-def _read_outcome(lines: _Lines) -> Outcome:
+def _read_outcome(lines: Lines) -> Outcome:
     bare, weighed, cost, hops = lines.need(_OUTCOME, "`outcome ..`").groups()
     return Outcome(bare, None) if bare else Outcome(weighed, lines.weight(cost, hops))
 
 
-def _read_hops(lines: _Lines) -> Iterator[Hop]:
+def _read_hops(lines: Lines) -> Iterator[Hop]:
     due = 1
-    while match := lines.take(_HOP):
-        number, kind, element, source, source_tag, target, target_tag, domain, again = match.groups()
-        if number != str(due):
-            raise lines.refuse(f"hop {due} is due")
-        yield Hop(kind, element, lines.place(source, source_tag), lines.place(target, target_tag), domain,
-                  None if again is None else lines.number(again))
+    while match := lines.take(HOP_LINE):
+        yield read_hop(lines, match, due)
         due += 1
 
 
-def _read_domains(lines: _Lines) -> Iterator[DomainRules]:
+def read_hop(lines: Lines, match: re.Match[str], due: int) -> Hop:
+    """The hop of a line that was taken; `due` is its number."""
+    number, kind, element, source, source_tag, target, target_tag, domain, again = match.groups()
+    if number != str(due):
+        raise lines.refuse(f"hop {due} is due")
+    return Hop(kind, element, lines.place(source, source_tag), lines.place(target, target_tag), domain,
+               None if again is None else lines.number(again))
+
+
+def _read_domains(lines: Lines) -> Iterator[DomainRules]:
     last = ""
     while match := lines.take(_DOMAIN):
         domain = match[1]
@@ -230,7 +236,7 @@ def _read_domains(lines: _Lines) -> Iterator[DomainRules]:
         last = domain
 
 
-def _read_rules(lines: _Lines) -> Iterator[Rule]:
+def _read_rules(lines: Lines) -> Iterator[Rule]:
     last = 0
     while match := lines.take(_RULE):
         number, verb, element, source, source_tag, target, target_tag = match.groups()
@@ -243,7 +249,7 @@ def _read_rules(lines: _Lines) -> Iterator[Rule]:
         last = rule.number
 
 
-def _read_potentials(lines: _Lines, pattern: re.Pattern[str]) -> Iterator[Potential]:
+def _read_potentials(lines: Lines, pattern: re.Pattern[str]) -> Iterator[Potential]:
     last = None
     while match := lines.take(pattern):
         *places, past, cost, hops = match.groups()

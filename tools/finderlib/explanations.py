@@ -342,18 +342,22 @@ RULES = {
 FRESH = ("A document is believed only as it was printed, over the files that it was found for, in the same order. Call `find` again where the "
          "files have changed.")
 
+A_LIST = "This is a list of `k-find`, and `check` and `replay` take documents alone: those of `find`, and for `replay` those of `route` too."
+
 
 def explain_not_valid(words: Words, fields: dict[str, Any]) -> Explanation:
     rule = fields["rule"]
     if rule not in RULES:
         raise ToolFault(f"there is no rule {rule}")
-    return Explanation(words.document_line(fields["line"]), f"Rule {rule} fails here. {RULES[rule]}", FRESH)
+    remedy = A_LIST if words.document.startswith(b"circuits ") else FRESH
+    return Explanation(words.document_line(fields["line"]), f"Rule {rule} fails here. {RULES[rule]}", remedy)
 
 
 def explain_not_carried(words: Words, fields: dict[str, Any], word: str) -> Explanation:
     number = fields["rule"]
     if word == "text":
-        return Explanation(f"the document, {words.name(0)}", _misfit(words), FRESH)
+        remedy = A_LIST if words.document.startswith(b"circuits ") else FRESH
+        return Explanation(f"the document, {words.name(0)}", _misfit(words), remedy)
     answer = _answer(words)
     if word == "outcome":
         return Explanation(words.document_line(3), "No circuit is found, so that there is none to carry a unit over.",

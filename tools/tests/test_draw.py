@@ -11,7 +11,8 @@ import xml.etree.ElementTree as ElementTree
 from pathlib import Path
 
 import common
-from common import FolderTest, run_tool, topology
+from common import ROOT, FolderTest, run_tool, topology
+from test_finderlib import LIST
 
 from finderlib.documents import read_answer
 from finderlib.drawing.circuits import HIDDEN, SEEN, CircuitPicture
@@ -20,6 +21,7 @@ from finderlib.drawing.page import answer_page
 from finderlib.drawing.svg import colours_of, shorten
 from finderlib.drawing.walks import Walk
 from finderlib.faults import accepted_network
+from finderlib.lists import answer_of, read_list
 from finderlib.topologies import Network
 
 SVG = "{http://www.w3.org/2000/svg}"
@@ -106,6 +108,38 @@ class Walks(unittest.TestCase):
         walk = Walk(read_answer(document), network)
         self.assertEqual([stop.depth for stop in walk.stops], [0, -1, 0])
         ElementTree.fromstring(CircuitPicture(walk.answer, network).svg())
+
+
+class Lists(FolderTest):
+    def draw(self, data: bytes, *words: str) -> subprocess.CompletedProcess[bytes]:
+        return run_tool("draw", "--answer", "-", *words, str(ROOT / "examples" / "backup.json"), data=data)
+
+    def test_walks_are_drawn_by_their_numbers(self) -> None:
+        for walk, elements, said in (("1", ["inland"], "cost 460, 1 hop"), ("2", ["south", "north"], "cost 760, 2 hops")):
+            svg = self.draw(LIST, "--walk", walk).stdout.decode()
+            self.assertEqual([words(hop).split()[0] for hop in parts(svg, "hop")], elements)
+            self.assertIn(f"a circuit of a list of the cheapest: {said}", svg)
+
+    def test_one_walk_or_none_need_no_number(self) -> None:
+        lines = LIST.splitlines(keepends=True)
+        self.assertEqual(len(parts(self.draw(b"".join([*lines[:4], *lines[7:]])).stdout.decode(), "hop")), 1)
+        for more, said in ((b"none", "no circuit"), (b"past", "every circuit costs 2^64 or more"), (b"long 7 70000", "too long to list: cost 7")):
+            self.assertIn(said, self.draw(b"".join([*lines[:2], b"more %s\n" % more, b"end\n"])).stdout.decode())
+
+    def test_flags_and_rules_are_those_of_a_document(self) -> None:
+        document = read_answer(AGAIN)
+        document.tops, document.segs = [], []
+        hops = AGAIN.replace(b" again 1", b"").replace(b" again 2", b"").split(b"\n")[3:9]
+        data = b"\n".join([b"circuits 1", b"request x1 any y1 any", b"walk 1 18 6", *hops, b"more none", b"end", b""])
+        answer = answer_of(read_list(data), 1, accepted_network([AGAIN_FILE]))
+        self.assertEqual((answer.hops, answer.domains), (document.hops, document.domains))
+
+    def test_refusals(self) -> None:
+        for data, options, said in ((LIST, [], b"a list of 2 walks"), (LIST, ["--walk", "3"], b"there is no walk 3"), (LIST, ["--walk", "0"], b"--walk"),
+                                    (LIST[:-1], ["--walk", "1"], b"line 9"), (AGAIN, ["--walk", "1"], b"for lists of k-find")):
+            ended = self.draw(data, *options)
+            self.assertEqual((ended.returncode, ended.stdout), (2, b""))
+            self.assertIn(said, ended.stderr)
 
 
 class Circuits(unittest.TestCase):

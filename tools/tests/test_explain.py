@@ -2,6 +2,7 @@
 import unittest
 
 from common import FolderTest, run_tool, topology
+from test_finderlib import LIST
 from test_verify import FAULTS, LABELLED, ONE
 
 from finderlib.commands import ToolFault
@@ -18,6 +19,7 @@ REQUESTS = [
     (["find", "a", "any", "x", "any"], "request unknown-port x", "which finder reads over"),
     (["find", "a", "7", "b", "any"], "request label-not-here a 7", "has no labels"),
     (["find", "a", "any", "p", "2"], "request label-not-here p 2", "these lack it: q (3-4)"),
+    (["k-find", "3", "a", "any", "w", "any"], "request unknown-port w", "TO of the request"),
     (["find", "a", "any", STRANGE, "9"], f"request label-not-here {STRANGE} 9", "It has 1-5"),
 ]
 USAGE = [
@@ -28,6 +30,9 @@ USAGE = [
     (["find", "a", "07", "b", "any", "f"], "is no label"),
     (["route", "a", "any", "b", "4294967296", "f"], "is no label"),
     (["survey"] + ["f"] * 65, "64 is the most"),
+    (["k-find", "2", "a", "any", "b", "f"], "needs at least 6 words"),
+    (["k-find", "0", "a", "any", "b", "any", "f"], "from 1 to 100"),
+    (["k-find", "2", "a", "any", "b", "x", "f"], "is no label"),
     (["drill", "0"], "from 1 to 4096"),
     (["survey", ""], "is empty"),
 ]
@@ -49,7 +54,7 @@ class Explain(FolderTest):
                 self.assertIn(f"file {fault.split(' ')[1]}, ", said)
                 words.add((fault.split(" ")[3], fault.split(" ")[4:][0] if " shape " in fault else ""))
         self.assertEqual({word for word, _ in words}, {word for kind, word in FORMS if kind == "fault"})
-        self.assertEqual(len([rule for word, rule in words if word == "shape"]), 14)
+        self.assertEqual(len([rule for word, rule in words if word == "shape"]), 15)
 
     def test_requests(self) -> None:
         file = self.put("f.json", topology(
@@ -77,6 +82,9 @@ class Explain(FolderTest):
         self.assertIn("behind its last line", self.explain("not-valid 19 1", ["check", document, "f"]))
         for word in ("no-hop", "label", "frame", "end", "number", "outcome", "request"):
             self.assertIn(document, self.explain(f"not-carried 2 {word}", ["replay", document, "f"]))
+        listed = self.put("listed", LIST)
+        for words, line in ((["check", listed, "f"], "not-valid 1 1"), (["replay", listed, "f"], "not-carried 0 text")):
+            self.assertIn("a list of `k-find`", self.explain(line, words))
         broken = self.put("broken", b"circuit 2\n")
         self.assertIn("line 1 does not fit", self.explain("not-carried 0 text", ["replay", broken, "f"]))
 
@@ -100,7 +108,7 @@ class Explain(FolderTest):
         self.assertEqual((run.returncode, run.stdout.split(b"\n")[0], run.stderr), (0, b"request unknown-port q", b""))
         self.assertEqual(run_tool("explain", "--line", "request unknown-port q", *words).stdout, run.stdout)
         self.assertEqual(run_tool("explain", "--help").returncode, 0)
-        for data in (b"", b"\xff\x00", b"circuit 1\n", b"request unknown-port q\n\n", b"fault 1 0 json\n"):
+        for data in (b"", b"\xff\x00", b"circuit 1\n", LIST, b"request unknown-port q\n\n", b"fault 1 0 json\n"):
             run = run_tool("explain", *words, data=data)
             self.assertEqual((run.returncode, run.stdout), (2, b""))
             self.assertTrue(run.stderr.startswith(b"explain: "), run.stderr)

@@ -33,6 +33,18 @@ end
 """
 
 
+LIST = b"""circuits 1
+request oslo any bergen any
+walk 1 460 1
+hop 1 link inland oslo - bergen - coast
+walk 2 760 2
+hop 1 link south oslo - stavanger - coast
+hop 2 link north stavanger - bergen - coast
+more enough
+end
+"""
+
+
 def changed(line: int, text: str) -> bytes:
     """The document above with another line in a line's place."""
     lines = TUNNEL.decode().split("\n")

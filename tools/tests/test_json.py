@@ -7,7 +7,7 @@ import unittest
 
 import common
 from common import FolderTest, run_tool, topology
-from test_finderlib import TUNNEL
+from test_finderlib import LIST, TUNNEL
 
 from finderlib.as_json import JsonFault, from_json, json_lines, read_text, write_text
 from finderlib.documents import DocumentFault
@@ -18,13 +18,15 @@ COUNTS = b"survey\ndomain west 7\ndomain e\"ast 5\nports 12\nclasses 11\nlinks 6
 DRILLS = [b"drill 10\ndomains 11 ports 32 links 8 services 40\noutcome found 5116 5116\ncheck valid\nreplay carried 5116 numbered\n",
           b"drill 60\ndomains 61 ports 182 links 8 services 240\noutcome long 5764607523034234876 1099511627776\ncheck valid\nreplay -\n",
           b"drill 70\ndomains 71 ports 212 links 8 services 280\noutcome past\ncheck valid\nreplay -\n"]
+BARE_LISTS = [b"circuits 1\nrequest a 4294967295 b any\n%s\nend\n" % rest for rest in (
+    b"more none", b"more past", b"more long 18446744073709551615 1099511627776", b"walk 1 0 0\nmore none", b"walk 1 0 0\nmore long 0 65537")]
 STRANGE = TUNNEL.replace(b"c1", b"\"<c&1>\\").replace(b"d again 0", b"'; again 18446744073709551615")
 
 
 class ThereAndBack(FolderTest):
     def test_to_the_byte(self) -> None:
         bare = b"circuit 1\nrequest a 4294967295 b any\noutcome %s\nend\n"
-        for text in [TUNNEL, COUNTS, *DRILLS, *LINES, *(bare % word for word in (b"none", b"past", b"long 5 70000", b"found 0 0"))]:
+        for text in [TUNNEL, LIST, *BARE_LISTS, COUNTS, *DRILLS, *LINES, *(bare % word for word in (b"none", b"past", b"long 5 70000", b"found 0 0"))]:
             with self.subTest(text):
                 there = "\n".join(json_lines(read_text(text))).encode()
                 json.loads(there)
@@ -50,6 +52,13 @@ class ThereAndBack(FolderTest):
         self.assertEqual(json.loads(run_tool("json", data=LINES[0]).stdout),
                          {"kind": "fault", "word": "link-layer", "file": 1, "element": 3, "link": "l\"<b\\", "port": "x"})
         self.assertEqual(json.loads(run_tool("json", data=COUNTS).stdout)["totals"]["open-references"], 1)
+
+    def test_what_a_list_looks_like(self) -> None:
+        tree = json.loads(run_tool("json", data=LIST).stdout)
+        self.assertEqual((tree["kind"], tree["more"]), ("list", {"word": "enough", "cost": None, "hops": None}))
+        self.assertEqual([(walk["number"], walk["cost"], len(walk["hops"])) for walk in tree["walks"]], [(1, "460", 1), (2, "760", 2)])
+        self.assertEqual(tree["walks"][1]["hops"][1], {"number": 2, "kind": "link", "element": "north", "from": "stavanger", "fromLabel": None,
+                                                       "to": "bergen", "toLabel": None, "domain": "coast"})
 
     def test_layout_of_the_json_does_not_matter(self) -> None:
         tree = json.loads(run_tool("json", data=TUNNEL).stdout)
@@ -89,6 +98,39 @@ class Refused(FolderTest):
                 read_text(data)
             self.assertEqual(caught.exception.line, line)
         self.refused(data=b"\x1b[31m\n", says="-: line 1 of the document does not fit")
+
+    def test_lists(self) -> None:
+        lines = LIST.decode().splitlines(keepends=True)
+        first, second = lines[2:4], lines[4:7]
+        rows = [(1, "circuits 2"), (1, "circuits"), (1, "circuits 1 "), (2, "request oslo any bergen"), (3, "walk 0 460 1"), (3, "walk 2 460 1"),
+                (3, "walk 01 460 1"), (3, "walk 1 18446744073709551616 1"), (3, "walk 1 460 65537"), (3, "walk 1 460"), (3, "more"), (3, "end"),
+                (4, "hop 2 link inland oslo - bergen - coast"), (4, "hop 1 link inland oslo - bergen - coast again 0"), (4, "walk 2 760 2"),
+                (3, "walk 1 460 0\nhop 1 link inland oslo - bergen - coast"), (5, "walk 3 760 2"), (5, "walk 2 459 2"), (5, "walk 2 460 0"),
+                (7, "hop 2 jump north stavanger - bergen - coast"), (7, "more enough"), (8, "more"), (8, "more long"), (8, "more long 760 65536"),
+                (8, "more long 759 65537"), (8, "more long 760 1099511627777"), (8, "more found"), (8, "more enough 1 1"), (9, "END"), (9, "more none")]
+        texts = [("".join([*lines[:line - 1], text + "\n", *lines[line:]]), line + text.count("\n")) for line, text in rows]
+        texts += [("".join([*lines[:2], *first, first[0].replace("walk 1", "walk 2"), first[1], *lines[7:]]), 6),
+                  ("".join([*lines[:2], "more enough\n", "end\n"]), 3), ("".join([*lines, "end\n"]), 10), (LIST.decode()[:-1], 9),
+                  ("".join(lines[:8]), 9), ("".join([*lines[:2], *second, *lines[7:]]), 3), ("circuits 1\n", 2)]
+        for text, line in texts:
+            with self.subTest(text), self.assertRaises(DocumentFault) as caught:
+                read_text(text.encode())
+            self.assertEqual(caught.exception.line, line)
+        many = "".join(f"walk {at} 1 1\nhop 1 link l{at} a - b - d\n" for at in range(1, 102))
+        with self.assertRaises(DocumentFault) as caught:
+            read_text(f"circuits 1\nrequest a any b any\n{many}more none\nend\n".encode())
+        self.assertEqual(caught.exception.line, 203)
+
+    def test_json_of_lists(self) -> None:
+        tree = json.loads(run_tool("json", data=LIST).stdout)
+        first, second = tree["walks"]
+        for change in ({"walks": [second, first]}, {"walks": [first, {**first, "number": 2}]}, {"walks": [{**first, "cost": 460}]},
+                       {"walks": [{**first, "number": 2}]}, {"walks": [{**first, "more": 1}]}, {"walks": []}, {"walks": {}}, {"more": None},
+                       {"walks": [{**first, "hops": [{**first["hops"][0], "again": None}]}]}, {"more": {"word": "found", "cost": "1", "hops": 1}},
+                       {"more": {"word": "long", "cost": "760", "hops": 65536}}, {"more": {"word": "long", "cost": None, "hops": None}},
+                       {"outcome": None}):
+            with self.subTest(change), self.assertRaises(JsonFault):
+                from_json(json.dumps({**tree, **change}).encode())
 
     def test_json(self) -> None:
         tree = json.loads(run_tool("json", data=TUNNEL).stdout)

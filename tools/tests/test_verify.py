@@ -13,6 +13,7 @@ from pathlib import Path
 from types import ModuleType
 
 from common import ROOT, TOOLS, FolderTest, needs_finder, run_finder, run_tool, topology
+from test_finderlib import LIST
 
 RANDOM_NETWORKS = 250
 DAMAGES_OF_EACH = 8
@@ -323,6 +324,38 @@ class Rows(unittest.TestCase):
                 edits = {int(number[1] or 9): [new[1]] if new else []} if number else {}
                 verdict = f"not-valid {line} {rule}" if line else "valid found 1 1"
                 self.assertEqual(VERIFY.verdict(edited(ONE.document, edits), ONE.files())[1], verdict)
+
+
+class Lists(FolderTest):
+    def test_walks_of_a_list(self) -> None:
+        contents = [(ROOT / "examples" / "backup.json").read_bytes()]
+        lines = LIST.decode().split("\n")
+        rows = [(3, "walk 1 461 1", "not-valid 3 5"), (4, "hop 1 link north stavanger - bergen - coast", "not-valid 4 3"),
+                (4, "hop 1 link south oslo - stavanger - coast", "not-valid 3 4"), (5, "walk 2 761 2", "not-valid 5 5"),
+                (7, "hop 2 link north oslo - bergen - coast", "not-valid 7 3"), (5, "walk 2 459 2", "not-valid 5 1"), (5, "walk 3 760 2", "not-valid 5 1"),
+                (5, "walk 2 760 1", "not-valid 7 1"), (4, lines[3] + " again 0", "not-valid 4 1"), (2, "request oslo any narvik any", "not-valid 2 2"),
+                (2, "request oslo 7 bergen any", "not-valid 2 2"), (8, "more long 760 65536", "not-valid 8 1"), (8, "end", "not-valid 8 1"),
+                (9, "ends", "not-valid 9 1"), (8, "more none", "listed 2 none"), (8, "more long 760 65537", "listed 2 long 760 65537")]
+        self.assertEqual(VERIFY.list_verdict(LIST, contents), (0, "listed 2 enough"))
+        for at, text, due in rows:
+            with self.subTest(text):
+                data = "\n".join([*lines[:at - 1], text, *lines[at:]]).encode()
+                self.assertEqual(VERIFY.list_verdict(data, contents), (9 if due.startswith("not") else 0, due))
+        twice = "\n".join([*lines[:4], "walk 2 460 1", lines[3], *lines[7:]]).encode()
+        self.assertEqual(VERIFY.list_verdict(twice, contents)[1], "not-valid 6 1")
+        for count in range(len(LIST)):
+            self.assertEqual(VERIFY.list_verdict(LIST[:count], contents), (9, f"not-valid {LIST[:count].count(10) + 1} 1"))
+        self.assertEqual(VERIFY.list_verdict(LIST, [b""]), (3, "fault 1 0 json"))
+
+    def test_labels_are_kept(self) -> None:
+        file = topology("d", "PG a labels=v:5-9 isSource=l", "PG b labels=v:5-9 isSink=l", "L l")
+        data = "circuits 1\nrequest a any b any\nwalk 1 1 1\nhop 1 link l a {0} b {0} d\nmore none\nend\n"
+        for label, due in ((5, "listed 1 none"), (6, "not-valid 4 8")):
+            self.assertEqual(VERIFY.list_verdict(data.format(label).encode(), [file])[1], due)
+
+    def test_command(self) -> None:
+        ran = run_tool("verify", "--list", "-", str(ROOT / "examples" / "backup.json"), data=LIST)
+        self.assertEqual((ran.returncode, ran.stdout, ran.stderr), (0, b"listed 2 enough\n", b""))
 
 
 class Command(FolderTest):

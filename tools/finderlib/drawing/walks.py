@@ -52,7 +52,7 @@ class Walk:
     def _stops(self) -> Iterator[Stop]:
         request = self.answer.request
         if not self.hops:
-            if self.answer.outcome.word == "found":
+            if self.answer.outcome.word in ("found", "listed"):
                 wish = request.target_wish if request.source_wish is None else request.source_wish
                 yield Stop(0, _different(request.source, request.target), wish, 0, None)
             return

@@ -14,4 +14,5 @@ def outcome_words(outcome: Outcome) -> str:
     if outcome.weight is None:
         return {"none": "no circuit: no list of hops is a walk", "past": "every circuit costs 2^64 or more"}[outcome.word]
     weight = f"cost {outcome.weight.cost}, {outcome.weight.hops} hop{'' if outcome.weight.hops == 1 else 's'}"
-    return f"a cheapest circuit: {weight}" if outcome.word == "found" else f"the cheapest circuit is too long to list: {weight}"
+    said = {"found": "a cheapest circuit", "listed": "a circuit of a list of the cheapest", "long": "the cheapest circuit is too long to list"}
+    return f"{said[outcome.word]}: {weight}"
