@@ -91,7 +91,7 @@ def content(row: Row, data: bytes) -> bytes:
 class ReadingsTest(FolderTest):
     def test_rows(self) -> None:
         readings = read(TEXT.read_text())
-        self.assertEqual(len({row.shown for row in readings.rows}), 164)
+        self.assertEqual(len({row.shown for row in readings.rows}), 169)
         for row in readings.rows:
             with self.subTest(row.shown):
                 for word in row.words:
