@@ -1,7 +1,7 @@
 mod Refused
-mod Outcome
+pub mod Outcome
 mod Passing
 mod Flagged
-mod Listings
+pub mod Listings
 mod Told
 mod Answered
